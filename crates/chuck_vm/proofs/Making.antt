@@ -1,14 +1,18 @@
 -- Samples are made, one after another.
 use Rattle.std.proofs.Common.{◌≡◌, ℕ, suc, ◌+◌, ◌<◌, ◌≤◌, ℤ, pos, ◌<ℤ◌, List, [], ◌∷◌, ◌++◌, length, refl, sym, ap, ◌∙◌, subst, arith, append_assoc, append-nil}
 use Rattle.std.proofs.lemmas.Int.{ints}
+use Rattle.std.proofs.lemmas.List.{map-append}
 use Rattle.ck_base.specs.declared.limits.TheConstants.{MAX_FILES, MAX_SAMPLES}
+use Rattle.ugen_kinds.specs.declared.output.Output.{Output}
+use Rattle.ck_store.specs.Store.{Store}
 use Rattle.ck_code.specs.declared.code.CodeParts.{CodeParts}
 use Rattle.ck_code.specs.Verified.{IsVerified}
 use Rattle.ck_meaning.specs.Replay.{Stopped, by_code, run_code}
-use Rattle.ck_run.specs.Run.{Runner, Piece, Wake, Block, Run, settled, most_slices, sample_of, sampled, since, block_between}
-use Rattle.ck_run.specs.Report.{text_bytes}
+use Rattle.ck_run.specs.Run.{Runner, Piece, Wake, Block, Run, settled, most_slices, output_of, after_sample, sampled, since, block_between}
+use Rattle.ck_run.specs.Report.{text_bytes, sheet_sample, sheet_samples}
 use Rattle.ck_run.specs.Sound.{measure}
 use Rattle.ck_run.specs.Told.{silent, AddsFront}
+use Rattle.ck_run.proofs.Silences.{settled_samples}
 use Rattle.ck_run.proofs.Growing.{Grows, grows_more, grows_same, quiet, next_run, next_grows, run_grows, since-front}
 use Rattle.ck_run.proofs.Settling.{settles, enough_slices}
 use Rattle.run_laws.specs.FitRuns.{turns_at, IsRunStore, IsFitShred}
@@ -24,7 +28,6 @@ use Rattle.chuck_vm.specs.Wakes.{wakes_meant}
 use Rattle.chuck_vm.proofs.Applying.{text-append}
 use Rattle.chuck_vm.proofs.Counting.{counted_on}
 use Rattle.chuck_vm.proofs.Reports.{all_added, none_added}
-use Rattle.chuck_vm.proofs.Settles.{settled_samples}
 
 -- some were added, and some front of the next ones
 front_of : {A : Type 0} (items mine theirs later old mid new : List A) → items ≡ (mine ++ theirs) ++ later
@@ -52,7 +55,7 @@ pub no_fronts : (names : List (List ℕ)) (block : Block) (samples samples2 : Li
     (wakes : List MachineWake) → samples2 ≡ samples
     → AddsFronts names block samples samples2 text text wakes wakes
 no_fronts names block samples samples2 text wakes same = record {
-  samples_front = none_added block.samples samples samples2 same;
+  samples_front = none_added (sheet_samples block.samples) samples samples2 same;
   text_front = none_added (text_bytes names block.text) text text refl;
   wakes_front = none_added block.wakes (wakes_meant wakes) (wakes_meant wakes) refl;
 }
@@ -67,6 +70,10 @@ module _ (code : CodeParts) (names : List (List ℕ)) where
   abbrev bound : ℕ → ℕ
   bound n = most_slices (at n)
 
+  -- what `dac` gives at the sample that a store makes
+  abbrev gives : Store → Output
+  gives store = output_of (after_sample cod store)
+
   -- what comes after so many samples, told from then on
   abbrev next : ℕ → Run Stopped
   next n = quiet cod code.mains code.statics n
@@ -74,12 +81,12 @@ module _ (code : CodeParts) (names : List (List ℕ)) where
   -- some samples were made
   pub record Making (from n : ℕ) (samples samples2 : List ℤ) (text text2 : List ℕ)
       (wakes wakes2 : List MachineWake) : Type 0 where
-    pub xs : List ℤ
+    pub xs : List Output
     pub ts : List Piece
     pub ws : List Wake
     pub begun : ℕ
     pub grows : Grows (at from) (at n) xs ts ws begun
-    pub samples_are : samples2 ≡ samples ++ xs
+    pub samples_are : samples2 ≡ samples ++ sheet_samples xs
     pub text_is : text2 ≡ text ++ text_bytes names ts
     pub wakes_are : wakes_meant wakes2 ≡ wakes_meant wakes ++ ws
 
@@ -128,37 +135,40 @@ module _ (code : CodeParts) (names : List (List ℕ)) where
       (so_far : Making from n samples samples2 text text2 wakes wakes2) where
     -- one more
     pub one_made : (samples3 : List ℤ) (value : ℤ) → samples3 ≡ samples2 ++ value ∷ []
-        → value ≡ (sample_of (store_of m2.world)).value
+        → value ≡ sheet_sample (gives (store_of m2.world))
         → Becomes names (settled cod (bound n) (seen old)) m2 text2 text3 wakes2 wakes3
         → Making from (suc n) samples samples3 text text3 wakes wakes3
-        × (record (seen m2) { store = (sample_of (store_of m2.world)).store }
+        × (record (seen m2) { store = after_sample cod (store_of m2.world) }
         ≡ silent (at (suc n)))
     one_made samples3 value pushed value_is becomes =
         let b : Becomes names (next n) m2 text2 text3 wakes2 wakes3 =
         subst (λ r. Becomes names (settled cod (bound n) r) m2 text2 text3 wakes2 wakes3) stands becomes in
         let q = next n in
-        let same : value ≡ (sample_of q.store).value =
-        value_is ∙ ap (λ (r : Run Stopped). (sample_of r.store).value) b.machine_is in
-        let one : (sampled q).samples ≡ value ∷ [] =
-        ap (λ l. l ++ (sample_of q.store).value ∷ []) (settled_samples cod (bound n) (silent (at n)))
+        let same : value ≡ sheet_sample (gives q.store) =
+        value_is ∙ ap (λ (r : Run Stopped). sheet_sample (gives r.store)) b.machine_is in
+        let one : sheet_samples (sampled cod q).samples ≡ value ∷ [] =
+        ap (λ l. sheet_samples (l ++ gives q.store ∷ []))
+        (settled_samples cod (bound n) (silent (at n)))
         ∙ ap (λ v. v ∷ []) (sym same) in (
           record {
-            xs = so_far.xs ++ (sampled q).samples;
+            xs = so_far.xs ++ (sampled cod q).samples;
             ts = so_far.ts ++ q.text;
             ws = so_far.ws ++ q.wakes;
             begun = so_far.begun + q.begun;
-            grows = grows_more (at from) (at n) (at (suc n)) so_far.xs (sampled q).samples so_far.ts q.text
+            grows = grows_more (at from) (at n) (at (suc n)) so_far.xs (sampled cod q).samples so_far.ts q.text
                 so_far.ws q.wakes so_far.begun q.begun so_far.grows (next_grows cod code.mains code.statics n);
             samples_are = pushed ∙ ap (λ l. l ++ value ∷ []) so_far.samples_are
-                ∙ append_assoc samples so_far.xs (value ∷ [])
-                ∙ ap (λ l. samples ++ (so_far.xs ++ l)) (sym one);
+                ∙ append_assoc samples (sheet_samples so_far.xs) (value ∷ [])
+                ∙ ap (λ l. samples ++ (sheet_samples so_far.xs ++ l)) (sym one)
+                ∙ ap (λ l. samples ++ l)
+                (sym (map-append sheet_sample so_far.xs (sampled cod q).samples));
             text_is = b.text_is ∙ ap (λ l. l ++ text_bytes names q.text) so_far.text_is
                 ∙ append_assoc text (text_bytes names so_far.ts) (text_bytes names q.text)
                 ∙ ap (λ l. text ++ l) (sym (text-append names so_far.ts q.text));
             wakes_are = b.wakes_are ∙ ap (λ l. l ++ q.wakes) so_far.wakes_are
                 ∙ append_assoc (wakes_meant wakes) so_far.ws q.wakes;
           },
-          ap (λ (r : Run Stopped). record r { store = (sample_of r.store).store }) b.machine_is
+          ap (λ (r : Run Stopped). record r { store = after_sample cod r.store }) b.machine_is
               ∙ sym (ap silent (next_run cod code.mains code.statics n)),
         )
 
@@ -184,19 +194,23 @@ module _ (code : CodeParts) (names : List (List ℕ)) where
         let q = next n in
         let a = at from in
         let rest = run_grows cod code.mains code.statics k (suc n) in
-        let g = grows_more a (at (suc n)) (at (suc n + k)) (so_far.xs ++ (sampled q).samples) rest.xs (so_far.ts
+        let g = grows_more a (at (suc n)) (at (suc n + k)) (so_far.xs ++ (sampled cod q).samples) rest.xs (so_far.ts
         ++ q.text) rest.ts (so_far.ws ++ q.wakes) rest.ws (so_far.begun + q.begun) rest.more
-        (grows_more a (at n) (at (suc n)) so_far.xs (sampled q).samples so_far.ts q.text so_far.ws q.wakes
+        (grows_more a (at n) (at (suc n)) so_far.xs (sampled cod q).samples so_far.ts q.text so_far.ws q.wakes
         so_far.begun q.begun so_far.grows (next_grows cod code.mains code.statics n)) rest.grows in
+        let made = (sampled cod q).samples in
         let xs_are = ap (since a.samples) g.samples_grow
-        ∙ since-front a.samples ((so_far.xs ++ (sampled q).samples) ++ rest.xs) in
+        ∙ since-front a.samples ((so_far.xs ++ made) ++ rest.xs) in
         let ts_are = ap (since a.text) g.text_grows ∙ since-front a.text ((so_far.ts ++ q.text) ++ rest.ts) in
         let ws_are = ap (since a.wakes) g.wakes_grow
         ∙ since-front a.wakes ((so_far.ws ++ q.wakes) ++ rest.ws) in
         record {
           samples_front =
-              front_of _ so_far.xs (sampled q).samples rest.xs samples samples2 samples3 xs_are
-              so_far.samples_are ([], (sampled q).samples, refl, same ∙ sym (append-nil samples2));
+              front_of _ (sheet_samples so_far.xs) (sheet_samples made) (sheet_samples rest.xs)
+              samples samples2 samples3
+              (ap sheet_samples xs_are ∙ map-append sheet_sample (so_far.xs ++ made) rest.xs
+              ∙ ap (λ l. l ++ sheet_samples rest.xs) (map-append sheet_sample so_far.xs made))
+              so_far.samples_are ([], sheet_samples made, refl, same ∙ sym (append-nil samples2));
           text_front =
               front_of _ (text_bytes names so_far.ts) (text_bytes names q.text) (text_bytes names rest.ts) text
               text2 text3
@@ -214,8 +228,8 @@ module _ (code : CodeParts) (names : List (List ℕ)) where
       let a = at from in
       record {
         samples_are = made.samples_are
-            ∙ ap (λ l. samples
-            ++ l) (sym (ap (since a.samples) made.grows.samples_grow ∙ since-front a.samples made.xs));
+            ∙ ap (λ l. samples ++ sheet_samples l)
+            (sym (ap (since a.samples) made.grows.samples_grow ∙ since-front a.samples made.xs));
         text_is = made.text_is
             ∙ ap (λ l. text ++ text_bytes names l)
             (sym (ap (since a.text) made.grows.text_grows ∙ since-front a.text made.ts));

@@ -1,8 +1,9 @@
 -- Samples may be made in any pieces.
 use Rattle.std.proofs.Common.{◌≡◌, ℕ, ◌+◌, ℤ, List, ◌++◌, sym, ap, ◌∙◌, subst, arith, append_assoc}
+use Rattle.std.proofs.lemmas.List.{map-append}
 use Rattle.ck_code.specs.declared.code.CodeParts.{CodeParts}
 use Rattle.ck_meaning.specs.Replay.{by_code, run_code}
-use Rattle.ck_run.specs.Report.{text_bytes}
+use Rattle.ck_run.specs.Report.{text_bytes, sheet_sample, sheet_samples}
 use Rattle.ck_run.specs.Run.{Block, block_between}
 use Rattle.ck_run.specs.Told.{joined}
 use Rattle.ck_run.proofs.Growing.{blocks_join}
@@ -19,8 +20,9 @@ module _ (names : List (List ℕ)) (samples samples2 samples3 : List ℤ) (text 
       → Adds names next samples2 samples3 text2 text3 wakes2 wakes3
       → Adds names (joined block next) samples samples3 text text3 wakes wakes3
   adds_joined block next one two = record {
-    samples_are = two.samples_are ∙ ap (λ l. l ++ next.samples) one.samples_are
-        ∙ append_assoc samples block.samples next.samples;
+    samples_are = two.samples_are ∙ ap (λ l. l ++ sheet_samples next.samples) one.samples_are
+        ∙ append_assoc samples (sheet_samples block.samples) (sheet_samples next.samples)
+        ∙ ap (λ l. samples ++ l) (sym (map-append sheet_sample block.samples next.samples));
     text_is = two.text_is ∙ ap (λ l. l ++ text_bytes names next.text) one.text_is
         ∙ append_assoc text (text_bytes names block.text) (text_bytes names next.text)
         ∙ ap (λ l. text ++ l) (sym (text-append names block.text next.text));

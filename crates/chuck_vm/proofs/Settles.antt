@@ -1,15 +1,16 @@
 -- All that is due runs, slice by slice.
-use Rattle.std.proofs.Common.{◌≡◌, ℕ, zero, suc, ◌+◌, ◌<◌, ◌≤◌, not, nat_eq, List, [], ◌++◌, filter, fold, map, Option, option_map, Some, None, refl, sym, ap, ◌∙◌, subst, arith, append_assoc, append-nil}
+use Rattle.std.proofs.Common.{◌≡◌, ℕ, zero, suc, ◌+◌, ◌<◌, ◌≤◌, List, [], ◌++◌, Option, option_map, Some, None, refl, sym, ap, ◌∙◌, subst, arith, append_assoc, append-nil}
 use Rattle.ck_code.specs.declared.code.CodeParts.{CodeParts}
 use Rattle.ck_code.specs.Verified.{IsVerified}
 use Rattle.ck_store.specs.Store.{Store, At, On, End}
 use Rattle.ck_meaning.specs.Replay.{Stopped, by_code}
-use Rattle.ck_run.specs.Run.{Stop, Asked, Trapped, WentWrong, Runner, Shred, Due, Piece, Wake, Run, live, applied, carried_out, carried_out_where, came, noted, trap_of, run_slice, first_due, after_due, settled}
+use Rattle.ck_run.specs.Run.{Stop, Asked, Trapped, WentWrong, Runner, Shred, Due, Piece, Wake, Run, live, carried_out, carried_out_where, run_slice, first_due, after_due, settled}
 use Rattle.ck_run.specs.Report.{text_bytes}
 use Rattle.ck_run.specs.Told.{silent, told}
 use Rattle.ck_run.specs.Sound.{IsSound, measure}
 use Rattle.ck_run.proofs.Frame.{told-settled}
 use Rattle.ck_run.proofs.Growing.{as_told, told_more}
+use Rattle.ck_run.proofs.Silences.{slice_samples}
 use Rattle.ck_run.proofs.Settling.{Leaves, due_leaves, IsTaken, taken_sound}
 use Rattle.run_laws.specs.FitRuns.{turns_at, IsRunStore, IsFitShred}
 use Rattle.run_laws.proofs.Lawful.{lawful}
@@ -19,24 +20,11 @@ use Rattle.chuck_vm.specs.Machine.{seen}
 use Rattle.chuck_vm.specs.Telling.{Becomes, TellsFront}
 use Rattle.chuck_vm.specs.Tallies.{Counts}
 use Rattle.chuck_vm.specs.Wakes.{wakes_meant}
-use Rattle.chuck_vm.proofs.Applying.{acts_text, text-append}
+use Rattle.chuck_vm.proofs.Applying.{text-append}
 use Rattle.chuck_vm.proofs.Counting.{none_counted, more_counted}
 use Rattle.chuck_vm.proofs.Ends.{dues_but}
 
--- a slice makes no sample
-carried_samples : (run : Run Stopped) (n : ℕ) (stop : Stop) → (carried_out run n stop).samples ≡ run.samples
-carried_samples run n (Asked (At time)) = refl
-carried_samples run n (Asked (On event)) = refl
-carried_samples run n (Asked End) = refl
-carried_samples run n (Trapped trap place) = refl
-carried_samples run n WentWrong = refl
-
-where_samples : (run : Run Stopped) (o : Option (Shred Stopped)) (stop : Stop)
-    → (carried_out_where run o stop).samples ≡ run.samples
-where_samples run None stop = refl
-where_samples run (Some s) stop = carried_samples run s.number stop
-
--- nor does carrying out a request begin an instruction
+-- carrying out a request begins no instruction
 carried_begun : (run : Run Stopped) (n : ℕ) (stop : Stop) → (carried_out run n stop).begun ≡ run.begun
 carried_begun run n (Asked (At time)) = refl
 carried_begun run n (Asked (On event)) = refl
@@ -48,38 +36,6 @@ pub where_begun : (run : Run Stopped) (o : Option (Shred Stopped)) (stop : Stop)
     → (carried_out_where run o stop).begun ≡ run.begun
 where_begun run None stop = refl
 where_begun run (Some s) stop = carried_begun run s.number stop
-
-slice_samples : (runner : Runner Stopped) (run : Run Stopped) (o : Option (Shred Stopped))
-    → (run_slice runner run o).samples ≡ run.samples
-slice_samples runner run None = refl
-slice_samples runner run (Some s) =
-    let slice = runner.slice s.number s.progress run.store in
-    let left : Run Stopped =
-    record run {
-      store = slice.store;
-      shreds = map (came s.number slice.progress) run.shreds;
-      begun =
-          run.begun + slice.begun;
-    } in
-    let acted =
-    noted (fold (applied runner s.number) left slice.acts)
-    (record { time = slice.store.now; shred = s.number; trap = trap_of slice.stop }) in
-    where_samples acted (live acted s.number) slice.stop
-    ∙ (acts_text runner s.number slice.acts left).samples_are
-
-pub settled_samples : (runner : Runner Stopped) (bound : ℕ) (run : Run Stopped)
-    → (settled runner bound run).samples ≡ run.samples
-settled_samples runner zero run = refl
-settled_samples runner (suc bound) run = by (first_due run.store.now run.due) (settled_samples runner bound)
-  where
-    by : (o : Option Due) → ((run2 : Run Stopped) → (settled runner bound run2).samples ≡ run2.samples)
-        → (after_due runner run o (settled runner bound)).samples ≡ run.samples
-    by None ih = refl
-    by (Some d) ih =
-        ih (run_slice runner (record run { due = filter (λ other. not (nat_eq other.shred d.shred)) run.due })
-        (live run d.shred))
-        ∙ slice_samples runner (record run { due = filter (λ other. not (nat_eq other.shred d.shred)) run.due })
-        (live run d.shred)
 
 pub as_all_told : (run : Run Stopped) → run.samples ≡ []
     → run ≡ told [] run.text run.wakes run.begun (silent run)

@@ -1,13 +1,15 @@
 -- The numbers that a machine keeps are those of the run.
-use Rattle.std.proofs.Common.{◌≡◌, ℕ, zero, suc, pred, ◌+◌, ◌-◌, ◌<◌, ◌^◌, is_some, ℤ, List, [], ◌∷◌, ◌++◌, length, take, drop, refl, sym, ap, ◌∙◌, arith}
+use Rattle.std.proofs.Common.{◌≡◌, ℕ, zero, suc, pred, ◌+◌, ◌-◌, ◌<◌, ◌^◌, is_some, List, [], ◌∷◌, ◌++◌, length, take, drop, refl, sym, ap, ◌∙◌, arith}
 use Rattle.std.proofs.lemmas.List.{length-append, length-map, length-drop, drop-map, take_all}
 use Rattle.std.proofs.Math.Seq.{drop-append_seam}
 use Rattle.std.proofs.lemmas.List.Sums.{sum_by-append}
 use Rattle.std.specs.Prelude.{cond}
+use Rattle.ugen_kinds.specs.declared.output.Output.{Output}
 use Rattle.ck_code.specs.declared.code.CodeParts.{CodeParts}
 use Rattle.ck_meaning.specs.Replay.{Stopped, by_code, run_code}
-use Rattle.ck_run.specs.Run.{Run, Wake, sampled, most_slices, sample_of}
+use Rattle.ck_run.specs.Run.{Run, Wake, output_of, after_sample, sampled, most_slices}
 use Rattle.ck_run.specs.Told.{silent}
+use Rattle.ck_run.proofs.Silences.{settled_samples}
 use Rattle.ck_run.proofs.Growing.{next_grows, run_goes_on, quiet}
 use Rattle.machine_world.specs.Worlds.{store_of}
 use Rattle.chuck_vm.specs.declared.machine.Machine.{Machine}
@@ -16,7 +18,6 @@ use Rattle.chuck_vm.specs.declared.wake.Wake.{Wake as MachineWake}
 use Rattle.chuck_vm.specs.Tallies.{as_counted, trap_count, tally_of}
 use Rattle.chuck_vm.specs.Vm.{StandsFor, block_of}
 use Rattle.chuck_vm.specs.Wakes.{wake_meant, wakes_meant}
-use Rattle.chuck_vm.proofs.Settles.{settled_samples}
 
 -- a run has made as many samples as it was asked for
 pub samples_made : (code : CodeParts) (n : ℕ) → length (run_code code n).samples ≡ n
@@ -25,16 +26,16 @@ samples_made code (suc n) =
     let cod = by_code code in
     let before = run_code code n in
     let q = quiet cod code.mains code.statics n in
-    let value = (sample_of q.store).value in
+    let output = output_of (after_sample cod q.store) in
     let none : q.samples ≡ [] = settled_samples cod (most_slices before) (silent before) in
-    let one : length (sampled q).samples ≡ 1 =
-    length-append q.samples (value ∷ [])
-    ∙ omega (arith, ap (length {A = ℤ}) none) in
+    let one : length (sampled cod q).samples ≡ 1 =
+    length-append q.samples (output ∷ [])
+    ∙ omega (arith, ap (length {A = Output}) none) in
     let grown = (next_grows cod code.mains code.statics n).samples_grow in
     omega (
       arith,
-      ap (length {A = ℤ}) grown,
-      length-append before.samples (sampled q).samples,
+      ap (length {A = Output}) grown,
+      length-append before.samples (sampled cod q).samples,
       one,
       samples_made code n,
     )

@@ -6,7 +6,7 @@ use Rattle.ck_code.specs.declared.code.CodeParts.{CodeParts}
 use Rattle.ck_store.specs.Store.{Act, Sporked}
 use Rattle.ck_meaning.specs.Replay.{Stopped}
 use Rattle.ck_run.specs.Run.{Run, Block, Wait}
-use Rattle.ck_run.specs.Report.{text_bytes}
+use Rattle.ck_run.specs.Report.{text_bytes, sheet_samples}
 use Rattle.ck_run.specs.Told.{silent, AddsFront}
 use Rattle.chuck_vm.specs.declared.machine.Machine.{Machine}
 use Rattle.chuck_vm.specs.declared.wake.Wake.{Wake as MachineWake}
@@ -40,16 +40,16 @@ pub record TellsFront (names : List (List ℕ)) (run : Run Stopped) (text text2 
   pub text_front : AddsFront (text_bytes names run.text) text text2
   pub wakes_front : AddsFront run.wakes (wakes_meant wakes) (wakes_meant wakes2)
 
--- a block was added to the samples, the text and the slices
+-- a block was added to the samples of the sheet, the text and the slices
 pub record Adds (names : List (List ℕ)) (block : Block) (samples samples2 : List ℤ)
     (text text2 : List ℕ) (wakes wakes2 : List MachineWake) : Type 0 where
-  pub samples_are : samples2 ≡ samples ++ block.samples
+  pub samples_are : samples2 ≡ samples ++ sheet_samples block.samples
   pub text_is : text2 ≡ text ++ text_bytes names block.text
   pub wakes_are : wakes_meant wakes2 ≡ wakes_meant wakes ++ block.wakes
 
 -- or some front of each
 pub record AddsFronts (names : List (List ℕ)) (block : Block) (samples samples2 : List ℤ)
     (text text2 : List ℕ) (wakes wakes2 : List MachineWake) : Type 0 where
-  pub samples_front : AddsFront block.samples samples samples2
+  pub samples_front : AddsFront (sheet_samples block.samples) samples samples2
   pub text_front : AddsFront (text_bytes names block.text) text text2
   pub wakes_front : AddsFront block.wakes (wakes_meant wakes) (wakes_meant wakes2)

@@ -63,7 +63,7 @@ impl Vm {
     }
 
     /// Makes so many more samples, at most `MAX_SAMPLES` in all, and adds what the run tells on the
-    /// way to the three lists: the samples, the text, and the slices that ran.
+    /// way to the three lists: the samples of the sheet, the text, and the slices that ran.
     ///
     /// After `Memory` the machine is given up, and some front of each was added.
     pub fn render(

@@ -4,6 +4,7 @@ use Rattle.ck_values.specs.declared.trap.Place.{Place}
 use Rattle.ck_values.specs.Datum.{Datum, first_locals}
 use Rattle.ck_store.specs.Store.{Store, State, End}
 use Rattle.ck_store.specs.Steps.{fresh}
+use Rattle.ck_store.specs.Graph.{units_sounded}
 use Rattle.ck_typed.specs.Tree.{Program}
 use Rattle.ck_code.specs.declared.code.CodeParts.{CodeParts}
 use Rattle.ck_code.specs.declared.code.Fun.{Fun}
@@ -51,6 +52,7 @@ by_source program = record {
   slice =
       λ n r w. slice_by (record r { found = r.found ++ w ∷ [] }) w
       (replayed program n r (r.found ++ w ∷ []));
+  sound = units_sounded;
 }
 
 -- the run of a program, of so many samples
@@ -97,6 +99,7 @@ by_code code = record {
   slice = λ n r w.
       slice_with (begun_on code n (enough code) r.last r.turns r.frames w) r w
       (slice_on code n (enough code) r.place r.last r.turns r.frames w);
+  sound = units_sounded;
 }
 
 -- the run of a code, of so many samples

@@ -1,10 +1,11 @@
 -- What a run has told before makes no difference to how it goes on.
 use Rattle.std.proofs.Common.{◌≡◌, ℕ, ◌+◌, zero, suc, ℤ, pos, negsuc, nat_eq, List, [], ◌∷◌, ◌++◌, fold, filter, find, map, not, Option, Some, None, refl, ap, ◌∙◌, append_assoc, arith}
+use Rattle.ugen_kinds.specs.declared.output.Output.{Output}
 use Rattle.ck_store.specs.Store.{Act, Printed, Sporked, WokeOne, WokeAll, Removed, At, On, End}
-use Rattle.ck_run.specs.Run.{Stop, Asked, Trapped, WentWrong, Slice, Runner, Shred, Due, Wait, Piece, Line, Wake, Run, live, with_child, woken, ended_where, live_at, applied, carried_out, carried_out_where, trap_of, trap_piece, came, noted, after_slice, run_slice, first_due, sample_of, sampled, after_due, settled}
+use Rattle.ck_run.specs.Run.{Stop, Asked, Trapped, WentWrong, Slice, Runner, Shred, Due, Wait, Piece, Line, Wake, Run, live, with_child, woken, ended_where, live_at, applied, carried_out, carried_out_where, trap_of, trap_piece, came, noted, after_slice, run_slice, first_due, output_of, after_sample, sampled, after_due, settled}
 use Rattle.ck_run.specs.Told.{told}
 
-module _ {P : Type 0} (runner : Runner P) (xs : List ℤ) (ts : List Piece) (ws : List Wake) (begun : ℕ) where
+module _ {P : Type 0} (runner : Runner P) (xs : List Output) (ts : List Piece) (ws : List Wake) (begun : ℕ) where
   abbrev t : Run P → Run P
   t run = told xs ts ws begun run
 
@@ -102,6 +103,8 @@ module _ {P : Type 0} (runner : Runner P) (xs : List ℤ) (ts : List Piece) (ws 
   told-settled zero run = refl
   told-settled (suc bound) run = told-due bound (told-settled bound) run (first_due run.store.now run.due)
 
-  pub told-sampled : (run : Run P) → sampled (t run) ≡ t (sampled run)
-  told-sampled run = ap (λ samples. record (t run) { samples = samples; store = (sampled run).store })
-      (append_assoc xs run.samples ((sample_of run.store).value ∷ []))
+  pub told-sampled : (run : Run P) → sampled runner (t run) ≡ t (sampled runner run)
+  told-sampled run =
+      let after = after_sample runner run.store in
+      ap (λ samples. record (t run) { samples = samples; store = after })
+      (append_assoc xs run.samples (output_of after ∷ []))

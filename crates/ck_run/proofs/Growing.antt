@@ -1,6 +1,7 @@
 -- A run that goes on has told what it had told before, and more.
-use Rattle.std.proofs.Common.{◌≡◌, ℕ, zero, suc, ◌+◌, ℤ, List, [], ◌∷◌, ◌++◌, refl, sym, ap, ◌∙◌, subst, arith, append_assoc, append-nil}
+use Rattle.std.proofs.Common.{◌≡◌, ℕ, zero, suc, ◌+◌, List, [], ◌∷◌, ◌++◌, refl, sym, ap, ◌∙◌, subst, arith, append_assoc, append-nil}
 use Rattle.ck_values.specs.declared.kind.Kind.{Kind}
+use Rattle.ugen_kinds.specs.declared.output.Output.{Output}
 use Rattle.ck_run.specs.Run.{Runner, Piece, Wake, Run, settled, most_slices, sampled, run_of, since, block_between}
 use Rattle.ck_run.specs.Told.{silent, told, GoesOn, joined}
 use Rattle.ck_run.proofs.Frame.{told-settled, told-sampled}
@@ -23,14 +24,14 @@ grown before after more e = e ∙ ap (λ l. before ++ l) (sym (ap (since before)
 
 module _ {P : Type 0} where
   -- a run has told these since
-  pub record Grows (before after : Run P) (xs : List ℤ) (ts : List Piece) (ws : List Wake) (begun : ℕ) : Type
+  pub record Grows (before after : Run P) (xs : List Output) (ts : List Piece) (ws : List Wake) (begun : ℕ) : Type
       0 where
     pub samples_grow : after.samples ≡ before.samples ++ xs
     pub text_grows : after.text ≡ before.text ++ ts
     pub wakes_grow : after.wakes ≡ before.wakes ++ ws
     pub begun_grows : after.begun ≡ before.begun + begun
 
-  pub grows_more : (one two three : Run P) (xs xs2 : List ℤ) (ts ts2 : List Piece) (ws ws2 : List Wake)
+  pub grows_more : (one two three : Run P) (xs xs2 : List Output) (ts ts2 : List Piece) (ws ws2 : List Wake)
       (b b2 : ℕ)
       → Grows one two xs ts ws b → Grows two three xs2 ts2 ws2 b2 → Grows one three (xs ++ xs2) (ts ++ ts2)
       (ws ++ ws2) (b + b2)
@@ -49,7 +50,7 @@ module _ {P : Type 0} where
     begun_grows = omega arith;
   }
 
-  pub goes_on : (before after : Run P) (xs : List ℤ) (ts : List Piece) (ws : List Wake) (begun : ℕ)
+  pub goes_on : (before after : Run P) (xs : List Output) (ts : List Piece) (ws : List Wake) (begun : ℕ)
       → Grows before after xs ts ws begun → GoesOn before after
   goes_on before after xs ts ws begun grows = record {
     samples = grown before.samples after.samples xs grows.samples_grow;
@@ -73,7 +74,7 @@ module _ {P : Type 0} where
       }) (let e : run.begun ≡ run.begun + 0 = omega arith in e)
 
   -- what was told before what was told
-  pub told_more : (xs xs2 : List ℤ) (ts ts2 : List Piece) (ws ws2 : List Wake) (b b2 : ℕ) (run : Run P)
+  pub told_more : (xs xs2 : List Output) (ts ts2 : List Piece) (ws ws2 : List Wake) (b b2 : ℕ) (run : Run P)
       → told xs ts ws b (told xs2 ts2 ws2 b2 run) ≡ told (xs ++ xs2) (ts ++ ts2) (ws ++ ws2) (b + b2) run
   told_more xs xs2 ts ts2 ws ws2 b b2 run =
       let last = told (xs ++ xs2) (ts ++ ts2) (ws ++ ws2) (b + b2) run in
@@ -94,18 +95,18 @@ module _ {P : Type 0} where
     quiet n = settled runner (most_slices (at n)) (silent (at n))
 
     pub next_run : (n : ℕ) → at (suc n) ≡ told (at n).samples (at n).text (at n).wakes (at n).begun
-        (sampled (quiet n))
+        (sampled runner (quiet n))
     next_run n =
         let run = at n in
         let bound = most_slices run in
-        ap (λ r. sampled (settled runner bound r)) (as_told run)
-        ∙ ap (λ (r : Run P). sampled r) (told-settled runner run.samples run.text run.wakes run.begun bound
+        ap (λ r. sampled runner (settled runner bound r)) (as_told run)
+        ∙ ap (λ (r : Run P). sampled runner r) (told-settled runner run.samples run.text run.wakes run.begun bound
         (silent run))
         ∙ told-sampled runner run.samples run.text run.wakes run.begun (quiet n)
 
     pub next_grows : (n : ℕ)
         → (let more =
-        sampled (quiet n) in Grows (at n) (at (suc n)) more.samples more.text more.wakes more.begun)
+        sampled runner (quiet n) in Grows (at n) (at (suc n)) more.samples more.text more.wakes more.begun)
     next_grows n = record {
       samples_grow = ap (λ (r : Run P). r.samples) (next_run n);
       text_grows = ap (λ (r : Run P). r.text) (next_run n);
@@ -114,7 +115,7 @@ module _ {P : Type 0} where
     }
 
     pub record GrowsSome (before after : Run P) : Type 0 where
-      pub xs : List ℤ
+      pub xs : List Output
       pub ts : List Piece
       pub ws : List Wake
       pub more : ℕ
@@ -131,7 +132,7 @@ module _ {P : Type 0} where
     }
     run_grows (suc k) n =
         let rest = run_grows k (suc n) in
-        let more = sampled (quiet n) in
+        let more = sampled runner (quiet n) in
         record {
           xs = more.samples ++ rest.xs;
           ts = more.text ++ rest.ts;

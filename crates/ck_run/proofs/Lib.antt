@@ -7,3 +7,5 @@ pub mod Orderly
 pub mod Acting
 pub mod Settling
 pub mod Growing
+pub mod Silences
+pub mod Sounds

@@ -7,7 +7,7 @@ use Rattle.ck_base.specs.declared.limits.TheConstants.{MAX_SPORKS, MAX_SAMPLES}
 use Rattle.ck_values.specs.declared.kind.Kind.{Kind}
 use Rattle.ck_store.specs.Steps.{pick, fresh}
 use Rattle.ck_store.specs.Store.{Store, first_store, At, On, End}
-use Rattle.ck_run.specs.Run.{Stop, Asked, Trapped, WentWrong, Slice, Runner, Shred, Due, Wait, Wake, Run, has, live, with_due, end_with, ended, applied, carried_out_where, trap_of, came, noted, after_slice, run_slice, sooner, first_due, sample_of, sampled, after_due, settled, most_slices, first_shreds, first_due_of, first_run, run_of}
+use Rattle.ck_run.specs.Run.{Stop, Asked, Trapped, WentWrong, Slice, Runner, Shred, Due, Wait, Wake, Run, has, live, with_due, end_with, ended, applied, carried_out_where, trap_of, came, noted, after_slice, run_slice, sooner, first_due, after_sample, sampled, after_due, settled, most_slices, first_shreds, first_due_of, first_run, run_of}
 use Rattle.ck_run.specs.Counts.{hit, times, weight}
 use Rattle.ck_run.specs.Family.{AreInOrder, AreParented, IsFamily}
 use Rattle.ck_run.specs.Sound.{sporks_in, Goes, IsKept, IsLawful, times_due, times_waiting, times_live, IsSound, measure, BeginsFit}
@@ -593,7 +593,7 @@ module _ {P : Type 0} (runner : Runner P) (turns : ℤ → P → ℕ) (FitStore 
     pub sporks : run.store.sporks ≡ 0
 
   pub next_stands : (n : ℕ) (run : Run P) → n < MAX_SAMPLES → StandsAt n run
-      → StandsAt (suc n) (sampled (settled runner (most_slices run) run))
+      → StandsAt (suc n) (sampled runner (settled runner (most_slices run) run))
   next_stands n run few stands =
       let s = settles (most_slices run) run stands.sound (enough_slices run stands.sound stands.sporks) in
       let after = settled runner (most_slices run) run in
@@ -603,7 +603,7 @@ module _ {P : Type 0} (runner : Runner P) (turns : ℤ → P → ℕ) (FitStore 
           family = s.sound.family;
           once = s.sound.once;
           fits = All-weaker (λ (s : Shred P). Fits after.store s.progress)
-              (λ (s : Shred P). Fits (sample_of after.store).store s.progress)
+              (λ (s : Shred P). Fits (after_sample runner after.store) s.progress)
               (λ t fits. lawful.tick_fits after.store t.progress fits) after.shreds s.sound.fits;
         };
         now = omega (arith, ints, s.now, stands.now);

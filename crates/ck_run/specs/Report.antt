@@ -1,6 +1,8 @@
--- The lines that a run is reported by.
-use Rattle.std.specs.Prelude.{ℕ, ℤ, pos, negsuc, zero, suc, List, [], ◌∷◌, ◌++◌, Option, Some, None, codes, decimal, flat_map}
+-- The lines that a run is reported by, and the samples of its sheet.
+use Rattle.std.specs.Prelude.{ℕ, ℤ, pos, negsuc, zero, suc, List, [], ◌∷◌, ◌++◌, map, Option, Some, None, codes, decimal, flat_map}
+use Rattle.fixed_point.specs.Fix.{sample_of}
 use Rattle.ck_values.specs.Trap.{trap_name}
+use Rattle.ugen_kinds.specs.declared.output.Output.{Output}
 use Rattle.ck_run.specs.Run.{TrapAt, Wake, Piece, Line, TrapOf}
 
 -- a whole number in decimal
@@ -41,3 +43,10 @@ piece_bytes names (TrapOf wake) = trap_lines names wake wake.trap
 -- what `render` prints
 abbrev pub text_bytes : List (List ℕ) → List Piece → List ℕ
 text_bytes names text = flat_map (piece_bytes names) text
+
+-- the samples of the sheet: those of the left sides, as a sheet has one channel
+abbrev pub sheet_sample : Output → ℤ
+sheet_sample output = sample_of output.left
+
+abbrev pub sheet_samples : List Output → List ℤ
+sheet_samples outputs = map sheet_sample outputs

@@ -5,12 +5,11 @@ use Rattle.ck_values.specs.declared.trap.Place.{Place}
 use Rattle.ck_values.specs.declared.trap.Trap.{Trap}
 use Rattle.ck_values.specs.declared.kind.Kind.{Kind}
 use Rattle.ck_values.specs.Datum.{Datum}
-use Rattle.fixed_point.specs.Fix.{sample_of as sample_value}
+use Rattle.ugen_kinds.specs.declared.output.Output.{Output}
 use Rattle.ugen_sample.specs.Connection.{Connection}
 use Rattle.ugen_sample.specs.declared.unit.UnitState.{UnitState}
 use Rattle.ugen_sample.specs.UnitState.{Units, unit_at}
 use Rattle.ugen_sample.specs.Sample.{dac, last_of}
-use Rattle.ck_store.specs.Graph.{sounded}
 use Rattle.ck_store.specs.Store.{Store, first_store, Act, Printed, Sporked, WokeOne, WokeAll, Removed, Request, At, On, End}
 use Rattle.ck_store.specs.Steps.{pick, fresh, ticked}
 
@@ -29,10 +28,12 @@ pub record Slice (P : Type 0) : Type 0 where
   pub progress : P
   pub begun : ℕ
 
--- how shreds run: what one begins with, by its function and arguments, and its next slice
+-- how shreds run and sound: what one begins with, by its function and arguments, its next slice, and
+-- what a sample makes of unit generators that are connected so
 pub record Runner (P : Type 0) : Type 0 where
   pub begin : (fun : ℕ) → (arguments : List Datum) → P
   pub slice : (shred : ℕ) → P → Store → Slice P
+  pub sound : List Connection → Units → Units
 
 -- a live shred: its number, that of the shred that sporked it, and how far it came
 pub record Shred (P : Type 0) : Type 0 where
@@ -67,13 +68,14 @@ pub data Piece : Type 0 where
   TrapOf : Wake → Piece
 
 -- a run so far: the store, the live shreds by their numbers, the due and the waiting in order of
--- arrival, the samples, the text, the slices, and how many instructions they began
+-- arrival, the samples, which are what `dac` gave, the text, the slices, and how many instructions
+-- they began
 pub record Run (P : Type 0) : Type 0 where
   pub store : Store
   pub shreds : List (Shred P)
   pub due : List Due
   pub waits : List Wait
-  pub samples : List ℤ
+  pub samples : List Output
   pub text : List Piece
   pub wakes : List Wake
   pub begun : ℕ
@@ -241,23 +243,21 @@ first_due now [] = None
 first_due now (d ∷ rest) =
     pick (int_le d.time now) (Some (sooner d (first_due now rest))) (first_due now rest)
 
--- a sample that was made: its number, and the store after it
-pub record Sample : Type 0 where
-  pub value : ℤ
-  pub store : Store
-
--- the sample that a store makes: what `dac` gives on the left side, as no connection has a side yet
-abbrev pub sample_of : Store → Sample
-sample_of store =
-    let after = sounded store in
-    record { value = sample_value (last_of after.units dac).left; store = ticked after }
+-- what `dac` gave last
+abbrev pub output_of : Store → Output
+output_of store = last_of store.units dac
 
 module _ {P : Type 0} where
-  -- a sample is made, and time goes on
-  abbrev pub sampled : Run P → Run P
-  sampled run =
-      let sample = sample_of run.store in
-      record run { samples = run.samples ++ sample.value ∷ []; store = sample.store }
+  -- the store after a sample: the unit generators have sounded, and time goes on
+  abbrev pub after_sample : Runner P → Store → Store
+  after_sample runner store =
+      ticked (record store { units = runner.sound store.connections store.units })
+
+  -- a sample is made: what `dac` gives at it
+  abbrev pub sampled : Runner P → Run P → Run P
+  sampled runner run =
+      let after = after_sample runner run.store in
+      record run { samples = run.samples ++ output_of after ∷ []; store = after }
 
   -- goes on after the slice of what is due
   abbrev pub after_due : Runner P → Run P → Option Due → (Run P → Run P) → Run P
@@ -307,7 +307,7 @@ module _ {P : Type 0} where
   run_of runner mains statics zero = first_run runner mains statics
   run_of runner mains statics (suc n) =
       let before = run_of runner mains statics n in
-      sampled (settled runner (most_slices before) before)
+      sampled runner (settled runner (most_slices before) before)
 
 -- what comes behind the items that were there before
 abbrev pub since : {A : Type 0} → (before after : List A) → List A
@@ -316,7 +316,7 @@ since before after = drop (length before) after
 -- a block of a run: the samples, the text and the slices that the run up to its end has more than
 -- the run up to its start
 pub record Block : Type 0 where
-  pub samples : List ℤ
+  pub samples : List Output
   pub text : List Piece
   pub wakes : List Wake
 

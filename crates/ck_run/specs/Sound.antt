@@ -6,7 +6,7 @@ use Rattle.ck_values.specs.Datum.{Datum}
 use Rattle.ugen_sample.specs.Connection.{Connection}
 use Rattle.ck_store.specs.Store.{Store, first_store, Act, Printed, Sporked, WokeOne, WokeAll, Removed, At, On, End}
 use Rattle.ck_store.specs.Steps.{fresh}
-use Rattle.ck_run.specs.Run.{Stop, Asked, Trapped, WentWrong, Slice, Runner, Run, sample_of}
+use Rattle.ck_run.specs.Run.{Stop, Asked, Trapped, WentWrong, Slice, Runner, Run, after_sample}
 use Rattle.ck_run.specs.Counts.{times, weight}
 use Rattle.ck_run.specs.Family.{IsFamily}
 
@@ -74,9 +74,9 @@ module _ {P : Type 0} where
     pub cut_fits : (store : Store) (keep : Connection → Bool) (p : P) → Fits store p
         → Fits (record store { connections = filter keep store.connections }) p
     pub tick : (store : Store) → FitStore store → store.now <ℤ pos MAX_SAMPLES
-        → FitStore (sample_of store).store
+        → FitStore (after_sample runner store)
     pub tick_fits : (store : Store) (p : P) → Fits store p
-        → Fits (sample_of store).store p
+        → Fits (after_sample runner store) p
 
   -- how often a number stands among what is due, what waits, and the live shreds
   abbrev pub times_due : ℕ → Run P → ℕ

@@ -1,5 +1,6 @@
 -- What a run has told: samples, text, slices, and how many instructions these began.
-use Rattle.std.specs.Prelude.{◌≡◌, ℕ, ◌+◌, ℤ, List, [], ◌++◌}
+use Rattle.std.specs.Prelude.{◌≡◌, ℕ, ◌+◌, List, [], ◌++◌}
+use Rattle.ugen_kinds.specs.declared.output.Output.{Output}
 use Rattle.ck_run.specs.Run.{Run, Piece, Wake, Block, block_between}
 
 module _ {P : Type 0} where
@@ -8,7 +9,7 @@ module _ {P : Type 0} where
   silent run = record run { samples = []; text = []; wakes = []; begun = 0 }
 
   -- the run that had told these before
-  abbrev pub told : List ℤ → List Piece → List Wake → (begun : ℕ) → Run P → Run P
+  abbrev pub told : List Output → List Piece → List Wake → (begun : ℕ) → Run P → Run P
   told samples text wakes begun run = record run {
     samples = samples ++ run.samples;
     text = text ++ run.text;

@@ -12,7 +12,7 @@ use Rattle.ugen_kinds.specs.SoundFile.{no_waves}
 use Rattle.ugen_kinds.specs.Generator.{is_past_limit, keyed, staged}
 use Rattle.ugen_sample.specs.Connection.{Connection, same_side}
 use Rattle.ugen_sample.specs.declared.unit.UnitState.{UnitState}
-use Rattle.ugen_sample.specs.UnitState.{first_unit, unit_at}
+use Rattle.ugen_sample.specs.UnitState.{Units, first_unit, unit_at}
 use Rattle.ugen_sample.specs.Parameters.{unit_parameter, with_unit_parameter}
 use Rattle.ugen_sample.specs.Order.{roots}
 use Rattle.ugen_sample.specs.Sample.{sampled}
@@ -118,6 +118,10 @@ abbrev pub unit_staged : (attack decay sustain release : ℤ) → (unit : Datum)
 unit_staged attack decay sustain release u store =
     generator_changed (staged attack decay sustain release) u store
 
+-- what a sample makes of unit generators that are connected so
+abbrev pub units_sounded : List Connection → Units → Units
+units_sounded connections units = sampled no_waves roots connections units
+
 -- all unit generators that are reached from there have made a sample
 abbrev pub sounded : Store → Store
-sounded store = record store { units = sampled no_waves roots store.connections store.units }
+sounded store = record store { units = units_sounded store.connections store.units }

@@ -10,10 +10,11 @@ use Rattle.ugen_sample.specs.Order.{roots}
 use Rattle.ugen_sample.specs.Sample.{sampled}
 use Rattle.ugen_sample.proofs.Origins.{origins_sampled}
 use Rattle.ck_store.specs.Store.{Store}
+use Rattle.ck_store.specs.Steps.{ticked}
+use Rattle.ck_store.specs.Graph.{sounded}
 use Rattle.ck_code.specs.declared.code.CodeParts.{CodeParts}
 use Rattle.ck_code.specs.Fitting.{IsFitStore}
 use Rattle.ck_code.proofs.Placed.{IsWithin, graph_units, graph_connections, stay_on}
-use Rattle.ck_run.specs.Run.{sample_of}
 
 module _ (code : CodeParts) where
   pub cut_fits : (store : Store) (keep : Connection → Bool) → IsFitStore code store
@@ -31,7 +32,7 @@ module _ (code : CodeParts) where
   }
 
   pub sample_fits : (store : Store) → store.now <ℤ pos MAX_SAMPLES → IsFitStore code store
-      → IsFitStore code (sample_of store).store
+      → IsFitStore code (ticked (sounded store))
   sample_fits store lt fit =
       let units = sampled no_waves roots store.connections store.units in
       record {

@@ -670,17 +670,17 @@ module _ (program : Program) (fine : IsWellFormed program) (code : CodeParts)
       (run.first_due a.store.now a.due) same)
 
   sampled_same : (count : ℕ) (a : Run Replay) (b : Run Stopped) → count < MAX_SAMPLES
-      → SameRun (pos count) Never a b → SameRun (pos (suc count)) Never (run.sampled a)
-      (run.sampled b)
+      → SameRun (pos count) Never a b → SameRun (pos (suc count)) Never (run.sampled src a)
+      (run.sampled cod b)
   sampled_same count a b few same = record {
-    store = ap {A = Store} {B = Store} (λ s. (run.sample_of s).store) same.store;
-    shreds = alike_map (SameAt a.store) (SameAt (run.sample_of a.store).store) Never (λ n r c h.
+    store = ap {A = Store} {B = Store} (run.after_sample cod) same.store;
+    shreds = alike_map (SameAt a.store) (SameAt (run.after_sample src a.store)) Never (λ n r c h.
         same_on a.store.objects a.store.objects a.store.now (a.store.now +ℤ pos 1)
         (kept_same a.store.objects) (omega (arith, ints)) n r c h) a.shreds b.shreds same.shreds;
     due = same.due;
     waits = same.waits;
-    samples = ap (λ l. l ++ (run.sample_of a.store).value ∷ []) same.samples
-        ∙ ap {A = Store} (λ s. b.samples ++ (run.sample_of s).value ∷ []) same.store;
+    samples = ap (λ l. l ++ run.output_of (run.after_sample src a.store) ∷ []) same.samples
+        ∙ ap {A = Store} (λ s. b.samples ++ run.output_of (run.after_sample cod s) ∷ []) same.store;
     text = same.text;
     wakes = same.wakes;
     fits = sample_fits code a.store (omega (arith, ints, same.time, few)) same.fits;
@@ -751,8 +751,8 @@ module _ (program : Program) (fine : IsWellFormed program) (code : CodeParts)
       ap (λ l. suc fresh * (l + 4_096))
       (same_count (SameAt a.store) Never a.shreds b.shreds before.shreds) in
       subst (λ m. SameRun (pos (suc count)) Never
-      (run.sampled (run.settled src (run.most_slices a) a))
-      (run.sampled (run.settled cod m b))) most
+      (run.sampled src (run.settled src (run.most_slices a) a))
+      (run.sampled cod (run.settled cod m b))) most
       (sampled_same count _ _ (omega (arith, few))
       (settled_same (pos count) (run.most_slices a) a b before))
 

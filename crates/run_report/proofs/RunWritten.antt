@@ -7,6 +7,7 @@ use Rattle.std.specs.List.{range_with_len}
 use Rattle.std.specs.Int.{div_ceil}
 use Rattle.std.specs.List.{list_any}
 use Rattle.std.specs.Prelude.{flat_map, is_some, count_by, cond, nat_lt, length, pred, Some}
+use Rattle.ugen_kinds.specs.declared.output.Output.{Output}
 use Rattle.ck_code.specs.declared.code.CodeParts.{CodeParts}
 use Rattle.ck_run.specs.Run.{Run, Block, Piece, Wake, since, block_between}
 use Rattle.ck_store.specs.Store.{Store}
@@ -51,7 +52,7 @@ module _ {P Q : Type 0} (names : List (List ℕ)) (samples : ℕ) (one : ℕ →
       let end = block_start samples (block + 1) in
       let le : start ≤ samples = omega arith in
       let le2 : end ≤ samples = omega arith in
-      let of : List ℤ → List Piece → List Wake → Block =
+      let of : List Output → List Piece → List Wake → Block =
       λ samples text wakes. record { samples = samples; text = text; wakes = wakes } in
       let text = since (one start).text (one end).text in
       let wakes = since (one start).wakes (one end).wakes in
@@ -63,7 +64,7 @@ module _ {P Q : Type 0} (names : List (List ℕ)) (samples : ℕ) (one : ℕ →
       (since (other start).text (other end).text))
       (since_same _ _ _ _ (same.same_wakes start le) (same.same_wakes end le2))
 
-  abbrev numbers_by : List ℤ → List Wake → Store → (begun : ℕ) → Tally
+  abbrev numbers_by : List Output → List Wake → Store → (begun : ℕ) → Tally
   numbers_by made wakes store begun = record {
     samples = as_counted (length made);
     wakes = as_counted (length wakes);

@@ -1,5 +1,6 @@
 -- What a run answers: a status, the steps at the edges, and its numbers.
 use Rattle.std.specs.Prelude.{ℕ, ℤ, List, [], ◌∷◌, ◌++◌, Option, Some, flat_map}
+use Rattle.ck_run.specs.Report.{sheet_samples}
 use Rattle.ck_run.specs.Run.{Run, Block}
 use Rattle.chuck_vm.specs.declared.tally.Tally.{Tally}
 use Rattle.chuck_vm.specs.Tallies.{tally_of}
@@ -23,12 +24,13 @@ samples_steps report.Wakes samples = []
 samples_steps report.Text samples = WriteSheet (bytes_of_samples samples) ∷ []
 samples_steps report.Numbers samples = []
 
--- what is done for a block with this report and these samples
+-- what is done for a block with this report and these samples of the sheet
 abbrev pub lines_steps : Report → List ℕ → List ℤ → List Step
 lines_steps report lines samples = writes_of (lines ∷ []) ++ samples_steps report samples
 
 abbrev pub block_steps : Report → List (List ℕ) → Block → List Step
-block_steps report names block = lines_steps report (block_report report names block) block.samples
+block_steps report names block =
+    lines_steps report (block_report report names block) (sheet_samples block.samples)
 
 -- what a run of so many samples answers by its blocks alone, where the files have these names and
 -- its slices began so many instructions

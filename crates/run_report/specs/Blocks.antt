@@ -3,7 +3,7 @@ use Rattle.std.specs.Prelude.{◌≡◌, ℕ, ◌+◌, ◌*◌, min, nat_lt, Boo
 use Rattle.std.specs.Prelude.{codes, decimal, if◌then◌else◌}
 use Rattle.std.specs.List.{list_any, range_with_len}
 use Rattle.std.specs.Int.{div_ceil}
-use Rattle.ck_run.specs.Report.{wake_lines, text_bytes}
+use Rattle.ck_run.specs.Report.{wake_lines, text_bytes, sheet_samples}
 use Rattle.ck_run.specs.Run.{Run, Wake, Block, block_between}
 use Rattle.chuck_vm.specs.declared.tally.Tally.{Tally}
 use Rattle.run_report.specs.declared.block.Block.{Block as Made}
@@ -68,5 +68,5 @@ tally_lines tally =
 -- a block was made, where the files have these names: its samples and its report
 pub record IsReported (report : Report) (names : List (List ℕ)) (block : Block) (made : Made)
     : Type 0 where
-  pub samples : made.samples.items ≡ block.samples
+  pub samples : made.samples.items ≡ sheet_samples block.samples
   pub lines : made.lines.items ≡ block_report report names block

@@ -1,6 +1,6 @@
 use Rattle.std.proofs.Common.{◌≡◌, ◌++◌, ℕ, Vec, sym, ap, ◌∙◌, subst}
 use Rattle.std.specs.declared.alloc.Global.{Global}
-use Rattle.ck_run.specs.Report.{wake_lines, text_bytes}
+use Rattle.ck_run.specs.Report.{wake_lines, text_bytes, sheet_samples}
 use Rattle.chuck_vm.specs.Vm.{block_of}
 use Rattle.chuck_vm.specs.Wakes.{wakes_meant}
 use Rattle.run_report.specs.declared.block.Block.{Block}
@@ -24,7 +24,7 @@ returns-clause-block c =
     subst (λ it. IsReported c.args.report names (block_of it.code it.samples c.args.count) made)
     c.into_inner.ensures
     (record {
-      samples = adds.samples_are ∙ ap (λ old. old ++ block.samples) c.new-samples.ensures.items;
+      samples = adds.samples_are ∙ ap (λ old. old ++ sheet_samples block.samples) c.new-samples.ensures.items;
       lines = elim c.match-report.branch [
         | in-Wakes+in_ok-lines-in-Wakes w ↦ subst P (sym w.in-Wakes.is)
             (ap (λ (v : Vec ℕ Global). v.items) w.lines-is ∙ w.in_ok-lines-in-Wakes.ensures

@@ -1,4 +1,3 @@
-use Rattle.std.proofs.Common.{◌≡◌}
 use Rattle.chuck_vm.proofs.Starting.{all_started}
 use Rattle.chuck_vm.proofs.machine.Machine.first.Goals as goal
 
