@@ -15,7 +15,7 @@ use Rattle.ck_code.proofs.Standing.{found_is}
 use Rattle.ck_code.proofs.Suiting.{suit_length}
 use Rattle.ck_code.proofs.Tables.{get_within}
 use Rattle.ck_store.specs.Steps.{fresh, resumed}
-use Rattle.ck_store.specs.Store.{Object, Store, State, Act, Printed, Sporked, WokeOne, WokeAll, Removed}
+use Rattle.ck_store.specs.Store.{Object, Store, State, Act, Printed, Sporked, WokeOne, WokeAll, Removed, Shapes, shapes_of}
 use Rattle.ck_meaning.specs.Replay.{Stopped, slice_with, first_frames, beginning, by_code}
 use Rattle.ck_run.specs.Run.{Shred}
 use Rattle.ck_run.specs.Sound.{AllSporks}
@@ -68,10 +68,10 @@ can_make code f args can = made_of (slice_get code.funs f) args can
 
 module _ (code : CodeParts) (verified : IsVerified code) where
   -- a child of which the arguments suit can begin
-  suits_can : (objects : List Object) (f : ℕ) (arguments : List Datum)
-      → FoundWhere (slice_get code.funs f) (λ fn. Suit code.classes objects (params_of fn) arguments)
+  suits_can : (shapes : Shapes) (f : ℕ) (arguments : List Datum)
+      → FoundWhere (slice_get code.funs f) (λ fn. Suit code.classes shapes (params_of fn) arguments)
       → CanBegin code f arguments
-  suits_can objects f arguments suits =
+  suits_can shapes f arguments suits =
       let found = found_is (slice_get code.funs f) _ suits in
       let fn = found.0 in
       let within : f < length verified.typing.operands =
@@ -80,30 +80,30 @@ module _ (code : CodeParts) (verified : IsVerified code) where
       let few = (verified.funs f fn places.0 found.1 places.1).params in
       subst (λ o. FoundWhere o (λ fn. fn.params ≡ length arguments)) (sym found.1)
       (sym (length-take-le fn.params fn.locals few)
-      ∙ suit_length code.classes objects (params_of fn) arguments found.2)
+      ∙ suit_length code.classes shapes (params_of fn) arguments found.2)
 
-  acts_can : (objects : List Object) (acts : List Act) → All (IsFitAct code objects) acts
+  acts_can : (shapes : Shapes) (acts : List Act) → All (IsFitAct code shapes) acts
       → AllSporks (CanBegin code) acts
-  acts_can objects [] all = tt
-  acts_can objects (Sporked number f arguments ∷ acts) all = (
-    suits_can objects f arguments (All-head (IsFitAct code objects) _ acts all),
-    acts_can objects acts (All-tail (IsFitAct code objects) _ acts all),
+  acts_can shapes [] all = tt
+  acts_can shapes (Sporked number f arguments ∷ acts) all = (
+    suits_can shapes f arguments (All-head (IsFitAct code shapes) _ acts all),
+    acts_can shapes acts (All-tail (IsFitAct code shapes) _ acts all),
   )
-  acts_can objects (Printed line ∷ acts) all =
-      acts_can objects acts (All-tail (IsFitAct code objects) _ acts all)
-  acts_can objects (WokeOne event ∷ acts) all =
-      acts_can objects acts (All-tail (IsFitAct code objects) _ acts all)
-  acts_can objects (WokeAll event ∷ acts) all =
-      acts_can objects acts (All-tail (IsFitAct code objects) _ acts all)
-  acts_can objects (Removed number ∷ acts) all =
-      acts_can objects acts (All-tail (IsFitAct code objects) _ acts all)
+  acts_can shapes (Printed line ∷ acts) all =
+      acts_can shapes acts (All-tail (IsFitAct code shapes) _ acts all)
+  acts_can shapes (WokeOne event ∷ acts) all =
+      acts_can shapes acts (All-tail (IsFitAct code shapes) _ acts all)
+  acts_can shapes (WokeAll event ∷ acts) all =
+      acts_can shapes acts (All-tail (IsFitAct code shapes) _ acts all)
+  acts_can shapes (Removed number ∷ acts) all =
+      acts_can shapes acts (All-tail (IsFitAct code shapes) _ acts all)
 
   module _ (b main : ℕ) (p : Stopped) (before : Store) where
     abbrev start : State
     start = resumed p.last p.turns before
 
     state_can : (s : State) → IsFitState code start s → AllSporks (CanBegin code) s.acts
-    state_can s fit = acts_can s.store.objects s.acts (fit.acts (All-nil (IsFitAct code start.store.objects)))
+    state_can s fit = acts_can (shapes_of s.store) s.acts (fit.acts (All-nil (IsFitAct code (shapes_of start.store))))
 
     halt_can : (h : Halt) → IsFitHalt code verified.typing main start h
         → AllSporks (CanBegin code) (slice_with b p before h).acts

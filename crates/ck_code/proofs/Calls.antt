@@ -12,7 +12,7 @@ use Rattle.ck_values.specs.declared.trap.Trap.TheVariants.{ArrayOutOfBounds}
 use Rattle.ugen_names.specs.declared.table.UgenKind.{UgenKind}
 use Rattle.ugen_names.specs.declared.table.UgenKind.TheVariants as ugen
 use Rattle.ck_values.specs.Datum.{Datum, AnInt, AFloat, ADur, AText, AShred}
-use Rattle.ck_store.specs.Store.{Object, Store, State, Act, WokeOne, WokeAll, Removed, Try, Gives, Fails, IsFitting}
+use Rattle.ck_store.specs.Store.{Store, State, Act, WokeOne, WokeAll, Removed, Try, Gives, Fails, IsFitting, Shapes, shapes_of}
 use Rattle.ck_store.specs.Steps.{and_then}
 use Rattle.ck_store.specs.Strings.{found_byte, char_at, substring}
 use Rattle.ck_store.specs.Arrays.{item_count, cleared}
@@ -35,10 +35,10 @@ use Rattle.ck_code.proofs.Arrays.{item_count_fine, cleared_fine}
 use Rattle.ck_code.proofs.Units.{IsKeyed, words_fit, keyed_fine, staged_fine}
 use Rattle.ck_code.proofs.Values.{picked, one_fine, event_fine}
 
-module _ (classes : List Class) (objects : List Object) where
+module _ (classes : List Class) (shapes : Shapes) where
   -- the value is of this type
   abbrev Is : Elem → Datum → Type 0
-  Is e v = IsOf classes objects e v
+  Is e v = IsOf classes shapes e v
 
   -- a call gives a value of this type, and leaves the state
   abbrev pub IsPlain : Elem → State → Given → Type 0
@@ -74,7 +74,7 @@ module _ (classes : List Class) (objects : List Object) where
   -- what a call gives for such operands, and nothing else
   abbrev Calls : Native → List Kind → Type 0
   Calls call kinds =
-      (operands : List Datum) (s : State) → Suit classes objects kinds operands
+      (operands : List Datum) (s : State) → Suit classes shapes kinds operands
       → Fine (IsPlain (by.built_in call).gives s) (native call operands s)
 
   -- that of shreds
@@ -145,36 +145,36 @@ module _ (code : CodeParts) where
       (Makes code s.store (One e)
       (record { reference = given.value; store = given.state.store })
       × (given.state ≡ record s { store = given.state.store }))
-      ⊎ (IsOf code.classes s.store.objects e given.value
-      × (act : Act) × IsFitAct code s.store.objects act × (given.state ≡ with_act act s))
+      ⊎ (IsOf code.classes (shapes_of s.store) e given.value
+      × (act : Act) × IsFitAct code (shapes_of s.store) act × (given.state ≡ with_act act s))
 
   -- what a call gives for such operands
   abbrev Leaves : Native → List Kind → Type 0
   Leaves call kinds =
       (operands : List Datum) (s : State) → IsFitStore code s.store
-      → Suit code.classes s.store.objects kinds operands
+      → Suit code.classes (shapes_of s.store) kinds operands
       → Fine (IsGiven (by.built_in call).gives s) (native call operands s)
 
   -- those that leave everything as it was
   plain_leaves : (call : Native) (kinds : List Kind)
-      → ((objects : List Object) → Calls code.classes objects call kinds) → Leaves call kinds
+      → ((shapes : Shapes) → Calls code.classes shapes call kinds) → Leaves call kinds
   plain_leaves call kinds calls operands s fit h =
       let e = (by.built_in call).gives in
-      fine_map (IsPlain code.classes s.store.objects e s) (IsGiven e s) (native call operands s)
-      (calls s.store.objects operands s h) (λ given is.
+      fine_map (IsPlain code.classes (shapes_of s.store) e s) (IsGiven e s) (native call operands s)
+      (calls (shapes_of s.store) operands s h) (λ given is.
       inl (subst (λ s1. Makes code s.store (One e)
       (record { reference = given.value; store = s1.store }) × (s1 ≡ record s { store = s1.store }))
       (sym is.1) ((is.0, grown_same code s.store fit), refl)))
 
   -- those of events
   wakes_leave : (act : ℕ → Act) (r : Datum) (s : State) (value : Datum)
-      → ((n : ℕ) → IsEvent code.classes s.store.objects n → IsFitAct code s.store.objects (act n))
-      → IsOf code.classes s.store.objects (ClassElem 1) r
-      → IsOf code.classes s.store.objects Int value
+      → ((n : ℕ) → IsEvent code.classes (shapes_of s.store) n → IsFitAct code (shapes_of s.store) (act n))
+      → IsOf code.classes (shapes_of s.store) (ClassElem 1) r
+      → IsOf code.classes (shapes_of s.store) Int value
       → Fine (IsGiven Int s) (and_then (event_of r) (λ n. Gives (acting s (act n) value)))
   wakes_leave act r s value fits is is_value =
-      fine_then (IsEvent code.classes s.store.objects) (IsGiven Int s) (event_of r) _
-      (event_fine code.classes s.store.objects r is) (λ n there.
+      fine_then (IsEvent code.classes (shapes_of s.store)) (IsGiven Int s) (event_of r) _
+      (event_fine code.classes (shapes_of s.store) r is) (λ n there.
       inr (is_value, act n, fits n there, refl))
 
   signal_leaves : Leaves Signal (One (ClassElem 1) ∷ [])
@@ -204,8 +204,8 @@ module _ (code : CodeParts) where
   unfolding native
   size_leaves j k has [] s fit h = absurd h
   size_leaves j k has (r ∷ []) s fit h =
-      fine_then (IsOf code.classes s.store.objects Int) (IsGiven Int s)
-      (item_count s.store.objects r) _ (item_count_fine code.classes s.store.objects r j k has h.0)
+      fine_then (IsOf code.classes (shapes_of s.store) Int) (IsGiven Int s)
+      (item_count s.store.objects r) _ (item_count_fine code.classes s.store.units s.store.objects r j k has h.0)
       (λ n is. inl ((is, grown_same code s.store fit), refl))
   size_leaves j k has (r ∷ v ∷ others) s fit h = absurd h.1
 
@@ -231,9 +231,9 @@ module _ (code : CodeParts) where
 
   -- those of random words
   words_leave : (e : Elem) (value : Datum) (words : Lcg) (s : State) → IsFitStore code s.store
-      → IsOf code.classes s.store.objects e value → IsGiven e s (plain (with_words words s) value)
+      → IsOf code.classes (shapes_of s.store) e value → IsGiven e s (plain (with_words words s) value)
   words_leave e value words s fit is =
-      inl ((is, (words_fit code words s.store fit, refl, kept_same s.store.objects)), refl)
+      inl ((is, (words_fit code words s.store fit, refl, kept_same (shapes_of s.store))), refl)
 
   random_leaves : Leaves Random2 (One Int ∷ One Int ∷ [])
   unfolding native
@@ -273,7 +273,7 @@ module _ (code : CodeParts) where
       inl ((tt, grown), refl))
 
   key_leaves : (u : UgenKind) → IsKeyed u → (is_on : Bool) (r : Datum) (s : State)
-      → IsFitStore code s.store → IsOf code.classes s.store.objects (UnitElem u) r
+      → IsFitStore code s.store → IsOf code.classes (shapes_of s.store) (UnitElem u) r
       → Fine (IsGiven Int s) (leaving s (unit_keyed is_on r s.store))
   key_leaves u has_key is_on r s fit is =
       store_leaves s _ (keyed_fine code s.store fit u r is is_on has_key)

@@ -6,7 +6,7 @@ use Rattle.ck_base.specs.declared.limits.TheConstants.{MAX_CALLS, MAX_SPORKS, FR
 use Rattle.ck_values.specs.declared.trap.Trap.TheVariants.{SporkLimit}
 use Rattle.ck_values.specs.declared.trap.Place.{Place}
 use Rattle.ck_values.specs.Datum.{Datum}
-use Rattle.ck_store.specs.Store.{Object, State, Try, Gives, Fails, Misfit}
+use Rattle.ck_store.specs.Store.{State, Try, Gives, Fails, Misfit, Shapes, shapes_of}
 use Rattle.ck_store.specs.Steps.{pick, int_units, float_units, is_zero, local_of, with_local, static_of, with_static, wait_dur, wait_time, spent_from, turn_spent, room_for_call}
 use Rattle.ck_store.specs.Operators.{unary, binary}
 use Rattle.ck_store.specs.Shreds.{Child, wait_event, sporked}
@@ -462,17 +462,17 @@ module _ (code : CodeParts) (verified : IsVerified code) where
       (rank_at_few code top.fun top.place) (ranks_few rest)
 
   -- at most a thousand calls are active
-  frames_few : (main : ℕ) (objects : List Object) (frames : List Frame)
-      → AreFit code verified.typing main objects frames → length frames ≤ suc MAX_CALLS
-  frames_few main objects [] fits = absurd fits
-  frames_few main objects (top ∷ rest) fits = omega (arith, fits.2)
+  frames_few : (main : ℕ) (shapes : Shapes) (frames : List Frame)
+      → AreFit code verified.typing main shapes frames → length frames ≤ suc MAX_CALLS
+  frames_few main shapes [] fits = absurd fits
+  frames_few main shapes (top ∷ rest) fits = omega (arith, fits.2)
 
   -- a slice ends
   pub slice_ends : (main shred : ℕ) (frames : List Frame) (s : State)
-      → AreFit code verified.typing main s.store.objects frames → s.turns < FRESH_TURNS
+      → AreFit code verified.typing main (shapes_of s.store) frames → s.turns < FRESH_TURNS
       → exec code shred (enough code) frames s ≡ Unfinished → ⊥
   unfolding enough
   slice_ends main shred frames s fits turns =
       exec_ends shred (enough code) frames s
       (start_less s.turns (greatest code) (length frames) (ranks code frames) turns
-      (frames_few main s.store.objects frames fits) (ranks_few frames))
+      (frames_few main (shapes_of s.store) frames fits) (ranks_few frames))

@@ -8,7 +8,7 @@ use Rattle.ck_values.specs.declared.kind.Kind.{Kind}
 use Rattle.ck_values.specs.declared.kind.Kind.TheVariants.{One, Null as NullKind}
 use Rattle.ck_values.specs.declared.trap.Place.{Place}
 use Rattle.ck_values.specs.Datum.{Datum, AnInt, AFloat, ADur, ATime, AShred, ARef}
-use Rattle.ck_store.specs.Store.{Object, Store, State, Printed, At}
+use Rattle.ck_store.specs.Store.{Store, State, Printed, At, Shapes, shapes_of}
 use Rattle.ck_store.specs.Steps.{pick, int_units, float_units, is_zero, local_of, with_local, static_of, with_static, wait_dur, wait_time, turn_spent}
 use Rattle.ck_store.specs.Operators.{unary, binary}
 use Rattle.ck_store.specs.Shreds.{with_act, wait_event}
@@ -42,25 +42,25 @@ use Rattle.ck_code.proofs.Objects.{field_fine, with_field_fine, object_made_fine
 module _ (code : CodeParts) (verified : IsVerified code) where
   -- a static suits its kind
   static_fine : (store : Store) (i : ℕ) (k : Kind) → IsFitStore code store
-      → slice_get code.statics i ≡ Some k → Fine (Suits code.classes store.objects k)
+      → slice_get code.statics i ≡ Some k → Fine (Suits code.classes (shapes_of store) k)
       (static_of store i)
   unfolding static_of
   static_fine store i k h e =
-      suit_get code.classes store.objects code.statics store.statics i k h.statics e
+      suit_get code.classes (shapes_of store) code.statics store.statics i k h.statics e
 
   -- a store with one static replaced fits
   with_static_fine : (store : Store) (i : ℕ) (k : Kind) (v : Datum) → IsFitStore code store
-      → slice_get code.statics i ≡ Some k → Suits code.classes store.objects k v
+      → slice_get code.statics i ≡ Some k → Suits code.classes (shapes_of store) k v
       → Fine (Grown code store) (with_static store i v)
   unfolding with_static
   with_static_fine store i k v h e is =
-      fine_then (Suits code.classes store.objects k) (Grown code store) (static_of store i) _
+      fine_then (Suits code.classes (shapes_of store) k) (Grown code store) (static_of store i) _
       (static_fine store i k h e)
       (λ old was. (
         record {
           objects = h.objects;
           statics =
-              suit_set code.classes store.objects code.statics store.statics i k v h.statics e is;
+              suit_set code.classes (shapes_of store) code.statics store.statics i k v h.statics e is;
           graph = h.graph;
           begun = h.begun;
           within = h.within;
@@ -68,7 +68,7 @@ module _ (code : CodeParts) (verified : IsVerified code) where
           next_shred = h.next_shred;
         },
         refl,
-        kept_same store.objects,
+        kept_same (shapes_of store),
       ))
 
   -- a field of a class has its kind
@@ -90,17 +90,17 @@ module _ (code : CodeParts) (verified : IsVerified code) (main : ℕ) (start : S
   Good e = IsFitEffect code typing main start e
 
   -- where a frame on top of others stands
-  abbrev Stand : Fun → Places → (f : ℕ) → List Frame → List Object → Type 0
+  abbrev Stand : Fun → Places → (f : ℕ) → List Frame → Shapes → Type 0
   Stand = Standing code typing main
 
   -- the value goes to the frame beneath, or is that of the first function
   returned_fits : (f : ℕ) (result : Kind) (v : Datum) (rest : List Frame) (s : State)
-      → slice_get typing.results f ≡ Some result → Suits classes s.store.objects result v
-      → AreCalling code typing main s.store.objects f rest → length rest ≤ MAX_CALLS
+      → slice_get typing.results f ≡ Some result → Suits classes (shapes_of s.store) result v
+      → AreCalling code typing main (shapes_of s.store) f rest → length rest ≤ MAX_CALLS
       → IsFitState code start s → Good (returned v rest s)
   returned_fits f result v [] s at suits calling few state = (
     where_found (slice_get typing.results main) (λ result.
-        Suits classes s.store.objects result v) result (ap (slice_get typing.results) (sym calling)
+        Suits classes (shapes_of s.store) result v) result (ap (slice_get typing.results) (sym calling)
         ∙ at) suits,
     state,
   )
@@ -111,7 +111,7 @@ module _ (code : CodeParts) (verified : IsVerified code) (main : ℕ) (start : S
             kinds = c.kind ∷ c.kinds;
             asked = c.asked;
             held = (
-              stands_suits classes s.store.objects result c.kind v
+              stands_suits classes (shapes_of s.store) result c.kind v
                   (same_found (slice_get typing.results f) (λ r.
                   Stands classes r c.kind) result at c.result) suits,
               c.held,
@@ -127,9 +127,9 @@ module _ (code : CodeParts) (verified : IsVerified code) (main : ℕ) (start : S
   module _ (fn : Fun) (places : Places) (f : ℕ) (rest : List Frame) where
     -- what a built-in call gives
     given_fits : (e : Elem) (p : ℕ) (kinds : List Kind) (l beneath : List Datum) (s : State)
-        (given : Given) → Stand fn places f rest s.store.objects
+        (given : Given) → Stand fn places f rest (shapes_of s.store)
         → Finds classes places (p + 1) (One e ∷ kinds)
-        → Suit classes s.store.objects kinds beneath → Suit classes s.store.objects fn.locals l
+        → Suit classes (shapes_of s.store) kinds beneath → Suit classes (shapes_of s.store) fn.locals l
         → IsFitState code start s → IsGiven code e s given
         → Good (Next (frame f (p + 1) l (given.value ∷ beneath) ∷ rest) given.state)
     given_fits e p kinds l beneath s given stands finds held locals state is = elim is [
@@ -149,8 +149,8 @@ module _ (code : CodeParts) (verified : IsVerified code) (main : ℕ) (start : S
 
     -- a built-in call on nothing, or on what isn't null
     sure_native_fits : (call : BuiltIn) (on : List Kind) (place : Place) (p : ℕ) (kinds : List Kind)
-        (l ops : List Datum) (s : State) → Stand fn places f rest s.store.objects
-        → Suit classes s.store.objects kinds ops → Suit classes s.store.objects fn.locals l
+        (l ops : List Datum) (s : State) → Stand fn places f rest (shapes_of s.store)
+        → Suit classes (shapes_of s.store) kinds ops → Suit classes (shapes_of s.store) fn.locals l
         → IsFitState code start s → IsOn (by.built_in call).on on
         → OnTop classes (reverse (on ++ map One (by.built_in call).params)) kinds (λ beneath.
         Finds classes places (p + 1) (One (by.built_in call).gives ∷ beneath))
@@ -158,8 +158,8 @@ module _ (code : CodeParts) (verified : IsVerified code) (main : ℕ) (start : S
     sure_native_fits call on place p kinds l ops s stands held locals state is_on top =
         let params = on ++ map One (by.built_in call).params in
         good_try Good _ (taken (operand_count call) [] ops) place s _
-        (arguments_fine classes s.store.objects params kinds ops (operand_count call) _
-        (native_count classes s.store.objects call on is_on) top held) (λ trap. state)
+        (arguments_fine classes (shapes_of s.store) params kinds ops (operand_count call) _
+        (native_count classes (shapes_of s.store) call on is_on) top held) (λ trap. state)
         (λ t suits.
         good_try Good (IsGiven code (by.built_in call).gives s)
         (native call t.arguments s) place s _
@@ -170,33 +170,33 @@ module _ (code : CodeParts) (verified : IsVerified code) (main : ℕ) (start : S
     -- one on null
     null_native_fits : (call : BuiltIn) (k : Kind) (ks : List Kind) (place : Place) (p : ℕ)
         (kinds : List Kind) (l ops : List Datum) (s : State) (P : List Kind → Type 0)
-        → Suit classes s.store.objects kinds ops → IsFitState code start s
+        → Suit classes (shapes_of s.store) kinds ops → IsFitState code start s
         → IsOn (by.built_in call).on (k ∷ ks)
         → OnTop classes (reverse ((k ∷ ks) ++ map One (by.built_in call).params)) kinds P
         → slice_get kinds (length (by.built_in call).params) ≡ Some NullKind
         → Good (calls_native place call f p l ops rest s)
     null_native_fits call k ks place p kinds l ops s P held state is_on top null =
         let count = length (by.built_in call).params in
-        let all = native_count classes s.store.objects call (k ∷ ks) is_on in
+        let all = native_count classes (shapes_of s.store) call (k ∷ ks) is_on in
         let receiver : FoundWhere (slice_get ops count) IsNull =
         found_more (slice_get ops count) _ IsNull (λ v h.
-        subst (λ j. Suits classes s.store.objects j v) h.1 h.2)
-        (receiver_suits classes s.store.objects count kinds ops (λ j. j ≡ NullKind) held
+        subst (λ j. Suits classes (shapes_of s.store) j v) h.1 h.2)
+        (receiver_suits classes (shapes_of s.store) count kinds ops (λ j. j ≡ NullKind) held
         (where_found (slice_get kinds count) (λ j. j ≡ NullKind) NullKind null refl)) in
         let one_more : suc count ≡ operand_count call = on_something call k ks is_on in
         let first = subst (λ n. Fine (λ (t : Taken). Headed t.arguments IsNull) (taken n [] ops))
         one_more (deepest_first count [] ops IsNull receiver) in
         good_try Good _ (taken (operand_count call) [] ops) place s _
         (fine_both _ _ (taken (operand_count call) [] ops)
-        (arguments_fine classes s.store.objects ((k ∷ ks) ++ map One (by.built_in call).params)
+        (arguments_fine classes (shapes_of s.store) ((k ∷ ks) ++ map One (by.built_in call).params)
         kinds ops (operand_count call) _ all top held) first) (λ trap. state)
         (λ t both.
         good_trap Good (native call t.arguments s) place s _
         (native_on_null classes call k ks is_on t.arguments s both.0.0 both.1) (λ trap. state))
 
     native_fits : (call : BuiltIn) (on : List Kind) (place : Place) (p : ℕ) (kinds : List Kind)
-        (l ops : List Datum) (s : State) → Stand fn places f rest s.store.objects
-        → Suit classes s.store.objects kinds ops → Suit classes s.store.objects fn.locals l
+        (l ops : List Datum) (s : State) → Stand fn places f rest (shapes_of s.store)
+        → Suit classes (shapes_of s.store) kinds ops → Suit classes (shapes_of s.store) fn.locals l
         → IsFitState code start s → IsOn (by.built_in call).on on
         → OnTop classes (reverse (on ++ map One (by.built_in call).params)) kinds (λ beneath.
         UnlessOnNull on (length (by.built_in call).params) kinds
@@ -215,9 +215,9 @@ module _ (code : CodeParts) (verified : IsVerified code) (main : ℕ) (start : S
 
     -- each instruction
     effect_fits : (shred : ℕ) (i : Instr) (place : Place) (p : ℕ) (kinds : List Kind)
-        (l ops : List Datum) (s : State) → Stand fn places f rest s.store.objects
+        (l ops : List Datum) (s : State) → Stand fn places f rest (shapes_of s.store)
         → FoundWhere (step_at code f p) (λ step. step.instr ≡ i)
-        → Suit classes s.store.objects kinds ops → Suit classes s.store.objects fn.locals l
+        → Suit classes (shapes_of s.store) kinds ops → Suit classes (shapes_of s.store) fn.locals l
         → IsFitState code start s → Fits code typing fn f places p i kinds
         → Good (effect code shred i place f p l ops rest s)
     effect_fits shred (Int n) place p kinds l ops s stands at held locals state fits =
@@ -233,8 +233,8 @@ module _ (code : CodeParts) (verified : IsVerified code) (main : ℕ) (start : S
         next_fits fn places f rest (p + 1) (One TimeElem ∷ kinds) l (ATime samples
         ∷ ops) s stands fits (tt, held) locals state
     effect_fits shred (Text k) place p kinds l ops s stands at held locals state fits =
-        good_try Good (IsOf classes s.store.objects TextElem) (text_at code.texts k) place s _
-        (text_fine classes s.store.objects code.texts k fits.0) (λ trap. state) (λ v is.
+        good_try Good (IsOf classes (shapes_of s.store) TextElem) (text_at code.texts k) place s _
+        (text_fine classes (shapes_of s.store) code.texts k fits.0) (λ trap. state) (λ v is.
         next_fits fn places f rest (p + 1) (One TextElem ∷ kinds) l (v ∷ ops) s stands fits.1 (
           is,
           held,
@@ -255,15 +255,15 @@ module _ (code : CodeParts) (verified : IsVerified code) (main : ℕ) (start : S
         ∷ ops) s stands fits (tt, held) locals state
     effect_fits shred (Local i) place p kinds l ops s stands at held locals state fits =
         let k = found_is (slice_get fn.locals i) _ fits in
-        good_try Good (Suits classes s.store.objects k.0) (local_of l i) place s _
-        (local_fine classes s.store.objects fn.locals l i k.0 locals k.1) (λ trap. state) (λ v is.
+        good_try Good (Suits classes (shapes_of s.store) k.0) (local_of l i) place s _
+        (local_fine classes (shapes_of s.store) fn.locals l i k.0 locals k.1) (λ trap. state) (λ v is.
         next_fits fn places f rest (p + 1) (k.0 ∷ kinds) l (v ∷ ops) s stands k.2 (
           is,
           held,
         ) locals state)
     effect_fits shred (Static i) place p kinds l ops s stands at held locals state fits =
         let k = found_is (slice_get code.statics i) _ fits in
-        good_try Good (Suits classes s.store.objects k.0) (static_of s.store i) place s _
+        good_try Good (Suits classes (shapes_of s.store) k.0) (static_of s.store i) place s _
         (static_fine code verified s.store i k.0 state.store k.1) (λ trap. state) (λ v is.
         next_fits fn places f rest (p + 1) (k.0 ∷ kinds) l (v ∷ ops) s stands k.2 (
           is,
@@ -271,39 +271,39 @@ module _ (code : CodeParts) (verified : IsVerified code) (main : ℕ) (start : S
         ) locals state)
     effect_fits shred (SetLocal i) place p kinds l ops s stands at held locals state fits =
         let k = found_is (slice_get fn.locals i) _ fits in
-        good_top Good classes s.store.objects _ kinds ops _ k.2 held
+        good_top Good classes (shapes_of s.store) _ kinds ops _ k.2 held
         (λ j beneath v under top is suit.
-        good_try Good (Suit classes s.store.objects fn.locals) (with_local l i v) place s _
-        (with_local_fine classes s.store.objects fn.locals l i k.0 v locals k.1
-        (stands_suits classes s.store.objects j k.0 v top.0 is)) (λ trap. state) (λ l1 fit.
+        good_try Good (Suit classes (shapes_of s.store) fn.locals) (with_local l i v) place s _
+        (with_local_fine classes (shapes_of s.store) fn.locals l i k.0 v locals k.1
+        (stands_suits classes (shapes_of s.store) j k.0 v top.0 is)) (λ trap. state) (λ l1 fit.
         next_fits fn places f rest (p + 1) (j ∷ beneath) l1 (v ∷ under) s stands top.1 (
           is,
           suit,
         ) fit state))
     effect_fits shred (SetStatic i) place p kinds l ops s stands at held locals state fits =
         let k = found_is (slice_get code.statics i) _ fits in
-        good_top Good classes s.store.objects _ kinds ops _ k.2 held
+        good_top Good classes (shapes_of s.store) _ kinds ops _ k.2 held
         (λ j beneath v under top is suit.
         good_try Good (Grown code s.store) (with_static s.store i v) place s _
         (with_static_fine code verified s.store i k.0 v state.store k.1
-        (stands_suits classes s.store.objects j k.0 v top.0 is)) (λ trap. state) (λ store grown.
+        (stands_suits classes (shapes_of s.store) j k.0 v top.0 is)) (λ trap. state) (λ store grown.
         grown_fits fn places f rest (p + 1) (j ∷ beneath) l (v ∷ under) s store stands top.1 (
           is,
           suit,
         ) locals state grown))
     effect_fits shred (OpLocal i o) place p kinds l ops s stands at held locals state fits =
         let k = found_is (slice_get fn.locals i) _ fits in
-        good_top Good classes s.store.objects _ kinds ops _
-        (update_fine classes s.store.objects o k.0 kinds _ k.2) held
+        good_top Good classes (shapes_of s.store) _ kinds ops _
+        (update_fine classes (shapes_of s.store) o k.0 kinds _ k.2) held
         (λ j beneath v under top is suit.
-        good_try Good (Suits classes s.store.objects k.0) (local_of l i) place s _
-        (local_fine classes s.store.objects fn.locals l i k.0 locals k.1) (λ trap. state)
+        good_try Good (Suits classes (shapes_of s.store) k.0) (local_of l i) place s _
+        (local_fine classes (shapes_of s.store) fn.locals l i k.0 locals k.1) (λ trap. state)
         (λ old was.
-        good_try Good (IsOf classes s.store.objects top.0) (binary o old v) place s _
+        good_try Good (IsOf classes (shapes_of s.store) top.0) (binary o old v) place s _
         (top.3 old v was is) (λ trap. state) (λ w is_w.
-        good_try Good (Suit classes s.store.objects fn.locals) (with_local l i w) place s _
-        (with_local_fine classes s.store.objects fn.locals l i k.0 w locals k.1
-        (stands_suits classes s.store.objects (One top.0) k.0 w top.2 is_w)) (λ trap. state)
+        good_try Good (Suit classes (shapes_of s.store) fn.locals) (with_local l i w) place s _
+        (with_local_fine classes (shapes_of s.store) fn.locals l i k.0 w locals k.1
+        (stands_suits classes (shapes_of s.store) (One top.0) k.0 w top.2 is_w)) (λ trap. state)
         (λ l1 fit.
         next_fits fn places f rest (p + 1) (One top.0 ∷ beneath) l1 (w ∷ under) s stands top.1 (
           is_w,
@@ -311,30 +311,30 @@ module _ (code : CodeParts) (verified : IsVerified code) (main : ℕ) (start : S
         ) fit state))))
     effect_fits shred (OpStatic i o) place p kinds l ops s stands at held locals state fits =
         let k = found_is (slice_get code.statics i) _ fits in
-        good_top Good classes s.store.objects _ kinds ops _
-        (update_fine classes s.store.objects o k.0 kinds _ k.2) held
+        good_top Good classes (shapes_of s.store) _ kinds ops _
+        (update_fine classes (shapes_of s.store) o k.0 kinds _ k.2) held
         (λ j beneath v under top is suit.
-        good_try Good (Suits classes s.store.objects k.0) (static_of s.store i) place s _
+        good_try Good (Suits classes (shapes_of s.store) k.0) (static_of s.store i) place s _
         (static_fine code verified s.store i k.0 state.store k.1) (λ trap. state) (λ old was.
-        good_try Good (IsOf classes s.store.objects top.0) (binary o old v) place s _
+        good_try Good (IsOf classes (shapes_of s.store) top.0) (binary o old v) place s _
         (top.3 old v was is) (λ trap. state) (λ w is_w.
         good_try Good (Grown code s.store) (with_static s.store i w) place s _
         (with_static_fine code verified s.store i k.0 w state.store k.1
-        (stands_suits classes s.store.objects (One top.0) k.0 w top.2 is_w)) (λ trap. state)
+        (stands_suits classes (shapes_of s.store) (One top.0) k.0 w top.2 is_w)) (λ trap. state)
         (λ store grown.
         grown_fits fn places f rest (p + 1) (One top.0 ∷ beneath) l (w ∷ under) s store stands
         top.1 (is_w, suit) locals state grown))))
     effect_fits shred (Field i) place p kinds l ops s stands at held locals state fits =
-        good_top Good classes s.store.objects _ kinds ops _ fits held
+        good_top Good classes (shapes_of s.store) _ kinds ops _ fits held
         (λ j beneath r under object is suit.
-        null_or classes s.store.objects j r object is (λ null.
+        null_or classes (shapes_of s.store) j r object is (λ null.
         good_trap Good (field_of s.store r i) place s _ (field_traps s.store r null i)
         (λ trap. state)) (λ top.
         let class = found_is (slice_get classes top.0) _ top.2 in
         let field = found_is (slice_get class.0.fields i) _ class.2 in
-        good_try Good (Suits classes s.store.objects field.0) (field_of s.store r i) place s _
+        good_try Good (Suits classes (shapes_of s.store) field.0) (field_of s.store r i) place s _
         (field_fine code verified s.store r top.0 i field.0 state.store
-        (stands_suits classes s.store.objects j _ r top.1 is)
+        (stands_suits classes (shapes_of s.store) j _ r top.1 is)
         (has_field code verified top.0 i class.0 field.0 class.1 field.1)) (λ trap. state)
         (λ v is_v.
         next_fits fn places f rest (p + 1) (field.0 ∷ beneath) l (v ∷ under) s stands field.2 (
@@ -342,47 +342,47 @@ module _ (code : CodeParts) (verified : IsVerified code) (main : ℕ) (start : S
           suit,
         ) locals state)))
     effect_fits shred (SetField i) place p kinds l ops s stands at held locals state fits =
-        good_top Good classes s.store.objects _ kinds ops _ fits held
+        good_top Good classes (shapes_of s.store) _ kinds ops _ fits held
         (λ jr kinds1 r under1 lower is suit.
-        good_top Good classes s.store.objects _ kinds1 under1 _ lower suit
+        good_top Good classes (shapes_of s.store) _ kinds1 under1 _ lower suit
         (λ j beneath v under object is_v suit1.
-        null_or classes s.store.objects jr r object is (λ null.
+        null_or classes (shapes_of s.store) jr r object is (λ null.
         good_trap Good (with_field s.store r i v) place s _ (with_field_traps s.store r null i v)
         (λ trap. state)) (λ top.
         let class = found_is (slice_get classes top.0) _ top.2 in
         let field = found_is (slice_get class.0.fields i) _ class.2 in
         good_try Good (Grown code s.store) (with_field s.store r i v) place s _
         (with_field_fine code verified s.store r top.0 i field.0 v state.store
-        (stands_suits classes s.store.objects jr _ r top.1 is)
+        (stands_suits classes (shapes_of s.store) jr _ r top.1 is)
         (has_field code verified top.0 i class.0 field.0 class.1 field.1)
-        (stands_suits classes s.store.objects j field.0 v field.2.0 is_v)) (λ trap. state)
+        (stands_suits classes (shapes_of s.store) j field.0 v field.2.0 is_v)) (λ trap. state)
         (λ store grown.
         grown_fits fn places f rest (p + 1) (j ∷ beneath) l (v ∷ under) s store stands field.2.1 (
           is_v,
           suit1,
         ) locals state grown))))
     effect_fits shred (OpField i o) place p kinds l ops s stands at held locals state fits =
-        good_top Good classes s.store.objects _ kinds ops _ fits held
+        good_top Good classes (shapes_of s.store) _ kinds ops _ fits held
         (λ jr kinds1 r under1 lower is suit.
-        good_top Good classes s.store.objects _ kinds1 under1 _ lower suit
+        good_top Good classes (shapes_of s.store) _ kinds1 under1 _ lower suit
         (λ j beneath v under object is_v suit1.
-        null_or classes s.store.objects jr r object is (λ null.
+        null_or classes (shapes_of s.store) jr r object is (λ null.
         good_trap Good (field_of s.store r i) place s _ (field_traps s.store r null i)
         (λ trap. state)) (λ top.
         let class = found_is (slice_get classes top.0) _ top.2 in
         let field = found_is (slice_get class.0.fields i) _ class.2 in
-        let suits_r = stands_suits classes s.store.objects jr _ r top.1 is in
+        let suits_r = stands_suits classes (shapes_of s.store) jr _ r top.1 is in
         let has = has_field code verified top.0 i class.0 field.0 class.1 field.1 in
-        let update = update_fine classes s.store.objects o field.0 (j ∷ beneath) (λ result under1.
+        let update = update_fine classes (shapes_of s.store) o field.0 (j ∷ beneath) (λ result under1.
         Finds classes places (p + 1) (One result ∷ under1)) field.2 in
-        good_try Good (Suits classes s.store.objects field.0) (field_of s.store r i) place s _
+        good_try Good (Suits classes (shapes_of s.store) field.0) (field_of s.store r i) place s _
         (field_fine code verified s.store r top.0 i field.0 state.store suits_r has) (λ trap. state)
         (λ old was.
-        good_try Good (IsOf classes s.store.objects update.0) (binary o old v) place s _
+        good_try Good (IsOf classes (shapes_of s.store) update.0) (binary o old v) place s _
         (update.3 old v was is_v) (λ trap. state) (λ w is_w.
         good_try Good (Grown code s.store) (with_field s.store r i w) place s _
         (with_field_fine code verified s.store r top.0 i field.0 w state.store suits_r has
-        (stands_suits classes s.store.objects (One update.0) field.0 w update.2 is_w))
+        (stands_suits classes (shapes_of s.store) (One update.0) field.0 w update.2 is_w))
         (λ trap. state) (λ store grown.
         grown_fits fn places f rest (p + 1) (One update.0 ∷ beneath) l (w ∷ under) s store stands
         update.1 (is_w, suit1) locals state grown))))))
@@ -396,31 +396,31 @@ module _ (code : CodeParts) (verified : IsVerified code) (main : ℕ) (start : S
         op_item_fits code typing main start fn places f rest shred place p kinds l ops s
         stands held locals state o fits
     effect_fits shred Dup place p kinds l ops s stands at held locals state fits =
-        good_top Good classes s.store.objects _ kinds ops _ fits held
+        good_top Good classes (shapes_of s.store) _ kinds ops _ fits held
         (λ j beneath v under top is suit.
         next_fits fn places f rest (p + 1) (j ∷ j ∷ beneath) l (v ∷ v ∷ under) s stands top (
           is,
           (is, suit),
         ) locals state)
     effect_fits shred Drop place p kinds l ops s stands at held locals state fits =
-        good_top Good classes s.store.objects _ kinds ops _ fits held
+        good_top Good classes (shapes_of s.store) _ kinds ops _ fits held
         (λ j beneath v under top is suit.
         next_fits fn places f rest (p + 1) beneath l under s stands top suit locals state)
     effect_fits shred Swap place p kinds l ops s stands at held locals state fits =
-        good_top Good classes s.store.objects _ kinds ops _ fits held
+        good_top Good classes (shapes_of s.store) _ kinds ops _ fits held
         (λ j kinds1 y under1 top is_y suit1.
-        good_top Good classes s.store.objects _ kinds1 under1 _ top suit1
+        good_top Good classes (shapes_of s.store) _ kinds1 under1 _ top suit1
         (λ k beneath x under top1 is_x suit.
         next_fits fn places f rest (p + 1) (k ∷ j ∷ beneath) l (x ∷ y ∷ under) s stands top1 (
           is_x,
           (is_y, suit),
         ) locals state))
     effect_fits shred (Op2Of o) place p kinds l ops s stands at held locals state fits =
-        good_top Good classes s.store.objects _ kinds ops _
-        (two_fine classes s.store.objects o kinds _ fits) held (λ k kinds1 y under1 top is_y suit1.
-        good_top Good classes s.store.objects _ kinds1 under1 _ top suit1
+        good_top Good classes (shapes_of s.store) _ kinds ops _
+        (two_fine classes (shapes_of s.store) o kinds _ fits) held (λ k kinds1 y under1 top is_y suit1.
+        good_top Good classes (shapes_of s.store) _ kinds1 under1 _ top suit1
         (λ j beneath x under top1 is_x suit.
-        good_try Good (IsOf classes s.store.objects top1.0) (binary o x y) place s _
+        good_try Good (IsOf classes (shapes_of s.store) top1.0) (binary o x y) place s _
         (top1.2 x y is_x is_y) (λ trap. state) (λ v is.
         next_fits fn places f rest (p + 1) (One top1.0 ∷ beneath) l (v ∷ under) s stands top1.1 (
           is,
@@ -428,21 +428,21 @@ module _ (code : CodeParts) (verified : IsVerified code) (main : ℕ) (start : S
         ) locals state)))
     effect_fits shred (Op1Of o) place p kinds l ops s stands at held locals state fits =
         replaced_fits fn places f rest (by.unary o).operand (by.unary o).result (unary o) place p
-        kinds l ops s (unary_fine classes s.store.objects o) stands held locals state fits
+        kinds l ops s (unary_fine classes (shapes_of s.store) o) stands held locals state fits
     effect_fits shred (UnitInt n d) place p kinds l ops s stands at held locals state fits =
         replaced_fits fn places f rest IntElem DurElem (int_units n d) place p kinds l ops s
-        (int_units_fine classes s.store.objects n d) stands held locals state fits.1
+        (int_units_fine classes (shapes_of s.store) n d) stands held locals state fits.1
     effect_fits shred (UnitFix n d) place p kinds l ops s stands at held locals state fits =
         replaced_fits fn places f rest FloatElem DurElem (float_units n d) place p kinds l ops s
-        (float_units_fine classes s.store.objects n d) stands held locals state fits.1
+        (float_units_fine classes (shapes_of s.store) n d) stands held locals state fits.1
     effect_fits shred (Jump t) place p kinds l ops s stands at held locals state fits =
         next_fits fn places f rest t kinds l ops s stands fits held locals state
     effect_fits shred (JumpZero t) place p kinds l ops s stands at held locals state fits =
-        good_top Good classes s.store.objects _ kinds ops _ fits held
+        good_top Good classes (shapes_of s.store) _ kinds ops _ fits held
         (λ j beneath v under top is suit.
         good_try Good (λ b. Unit {0}) (is_zero v) place s _
-        (zero_fine classes s.store.objects v
-        (stands_suits classes s.store.objects j (One IntElem) v top.0 is)) (λ trap. state)
+        (zero_fine classes (shapes_of s.store) v
+        (stands_suits classes (shapes_of s.store) j (One IntElem) v top.0 is)) (λ trap. state)
         (λ zero_is fine.
         next_fits fn places f rest (pick zero_is t (p + 1)) beneath l under s stands
         (picked (λ q. Finds classes places q beneath) zero_is t
@@ -454,9 +454,9 @@ module _ (code : CodeParts) (verified : IsVerified code) (main : ℕ) (start : S
         (λ s1 state1.
         let same : s.store ≡ s1.store = sym state1.1 in
         next_fits fn places f rest (p + 1) kinds l ops s1
-        (subst (λ store. Stand fn places f rest store.objects) same stands) fits
-        (subst (λ store. Suit classes store.objects kinds ops) same held)
-        (subst (λ store. Suit classes store.objects fn.locals l) same locals) state1.0)
+        (subst (λ store. Stand fn places f rest (shapes_of store)) same stands) fits
+        (subst (λ store. Suit classes (shapes_of store) kinds ops) same held)
+        (subst (λ store. Suit classes (shapes_of store) fn.locals l) same locals) state1.0)
     effect_fits shred (Call g) place p kinds l ops s stands at held locals state fits =
         call_fits code verified main start fn places f rest g p place kinds l ops s (slice_get code.funs g) stands refl
         (found_more (step_at code f p) _ _ (λ step is.
@@ -501,28 +501,28 @@ module _ (code : CodeParts) (verified : IsVerified code) (main : ℕ) (start : S
         stands held locals state fits
     effect_fits shred Return place p kinds l ops s stands at held locals state fits =
         let k = found_is (slice_get typing.results f) _ fits in
-        good_top Good classes s.store.objects _ kinds ops _ k.2 held
+        good_top Good classes (shapes_of s.store) _ kinds ops _ k.2 held
         (λ j beneath v under top is suit.
         returned_fits f k.0 v rest s k.1
-        (stands_suits classes s.store.objects j k.0 v top is) stands.beneath stands.few state)
+        (stands_suits classes (shapes_of s.store) j k.0 v top is) stands.beneath stands.few state)
     effect_fits shred WaitDur place p kinds l ops s stands at held locals state fits =
         waits_fit fn places f rest DurElem wait_dur place p kinds l ops s
-        (λ v is. wait_dur_fine classes s.store.objects v s.store is)
+        (λ v is. wait_dur_fine classes (shapes_of s.store) v s.store is)
         (found_more (step_at code f p) _ _ (λ step is. subst IsWait (sym is) tt) at) stands held
         locals state fits
     effect_fits shred WaitTime place p kinds l ops s stands at held locals state fits =
         waits_fit fn places f rest TimeElem wait_time place p kinds l ops s
-        (λ v is. wait_time_fine classes s.store.objects v s.store is)
+        (λ v is. wait_time_fine classes (shapes_of s.store) v s.store is)
         (found_more (step_at code f p) _ _ (λ step is. subst IsWait (sym is) tt) at) stands held
         locals state fits
     effect_fits shred WaitEvent place p kinds l ops s stands at held locals state fits =
-        good_top Good classes s.store.objects _ kinds ops _ fits held
+        good_top Good classes (shapes_of s.store) _ kinds ops _ fits held
         (λ j beneath event under of_event is suit.
-        null_or classes s.store.objects j event of_event is (λ null.
+        null_or classes (shapes_of s.store) j event of_event is (λ null.
         good_trap Good (wait_event event) place s _ (wait_traps event null) (λ trap. state)) (λ top.
-        good_try Good (IsFitRequest classes s.store.objects s.store.now) (wait_event event) place s _
-        (wait_event_fine classes s.store.objects event s.store.now
-        (stands_suits classes s.store.objects j (One (ClassElem 1)) event top.0 is))
+        good_try Good (IsFitRequest classes (shapes_of s.store) s.store.now) (wait_event event) place s _
+        (wait_event_fine classes (shapes_of s.store) event s.store.now
+        (stands_suits classes (shapes_of s.store) j (One (ClassElem 1)) event top.0 is))
         (λ trap. state) (λ q asked.
         stops_fit fn places f rest q place p beneath l under s asked
         (found_more (step_at code f p) _ _ (λ step is. subst IsWait (sym is) tt) at) stands top.1
@@ -543,7 +543,7 @@ module _ (code : CodeParts) (verified : IsVerified code) (main : ℕ) (start : S
         fits.1 fits.2
     effect_fits shred (Print items) place p kinds l ops s stands at held locals state fits =
         good_try Good _ (taken (length items) [] ops) place s _
-        (arguments_fine classes s.store.objects items kinds ops (length items) _ refl fits.2 held)
+        (arguments_fine classes (shapes_of s.store) items kinds ops (length items) _ refl fits.2 held)
         (λ trap. state) (λ t suits.
         next_fits fn places f rest (p + 1) suits.1 l t.beneath
         (with_line (print_line classes items t.arguments) s) stands suits.2 suits.3 locals
@@ -572,7 +572,7 @@ module _ (code : CodeParts) (verified : IsVerified code) (main : ℕ) (start : S
 
   -- the next instruction of frames that fit
   pub next_effect_fits : (shred : ℕ) (frames : List Frame) (s : State)
-      → AreFit code typing main s.store.objects frames → IsFitState code start s
+      → AreFit code typing main (shapes_of s.store) frames → IsFitState code start s
       → Good (next_effect code shred frames s)
   next_effect_fits shred [] s fits state = fits
   next_effect_fits shred (top ∷ rest) s fits state =
@@ -585,7 +585,7 @@ module _ (code : CodeParts) (verified : IsVerified code) (main : ℕ) (start : S
       let step = get_within in_fun.0.code top.place within in
       let at : step_at code top.fun top.place ≡ Some step.0 =
       ap (λ o. slice_get (steps_of o) top.place) in_fun.1 ∙ step.1 in
-      let stands : Stand in_fun.0 asked.0 top.fun rest s.store.objects =
+      let stands : Stand in_fun.0 asked.0 top.fun rest (shapes_of s.store) =
       record { fun = in_fun.1; operands = asked.1; beneath = fits.1; few = fits.2 } in
       subst (λ o. Good (with_step o (λ step.
       effect code shred step.instr step.place top.fun top.place top.locals top.operands rest s)))
@@ -598,7 +598,7 @@ module _ (code : CodeParts) (verified : IsVerified code) (main : ℕ) (start : S
 
   -- a slice goes on from what fits
   go_on_fits : (e : Effect) (next : List Frame → State → Halt) → Good e
-      → ((frames : List Frame) (s : State) → AreFit code typing main s.store.objects frames
+      → ((frames : List Frame) (s : State) → AreFit code typing main (shapes_of s.store) frames
       → IsFitState code start s → IsFitHalt code typing main start (next frames s))
       → IsFitHalt code typing main start (go_on e next)
   go_on_fits (Next frames s) next good after = after frames s good.0 good.1
@@ -609,7 +609,7 @@ module _ (code : CodeParts) (verified : IsVerified code) (main : ℕ) (start : S
 
   -- a slice
   pub exec_fits : (shred k : ℕ) (frames : List Frame) (s : State)
-      → AreFit code typing main s.store.objects frames → IsFitState code start s
+      → AreFit code typing main (shapes_of s.store) frames → IsFitState code start s
       → IsFitHalt code typing main start (exec code shred k frames s)
   exec_fits shred zero frames s fits state = tt
   exec_fits shred (suc k) frames s fits state =

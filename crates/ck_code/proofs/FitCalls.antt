@@ -11,7 +11,7 @@ use Rattle.ck_values.specs.declared.kind.Kind.TheVariants.{One}
 use Rattle.ck_values.specs.declared.trap.Place.{Place}
 use Rattle.ck_values.specs.declared.trap.Trap.TheVariants.{SporkLimit}
 use Rattle.ck_values.specs.Datum.{Datum, AShred, first_locals}
-use Rattle.ck_store.specs.Store.{Object, Store, State, Sporked, Gives, Fails}
+use Rattle.ck_store.specs.Store.{Store, State, Sporked, Gives, Fails, Shapes, shapes_of}
 use Rattle.ck_store.specs.Steps.{pick, turn_spent, room_for_call}
 use Rattle.ck_store.specs.Objects.{method_of}
 use Rattle.ck_store.specs.Shreds.{Child, sporked}
@@ -57,19 +57,19 @@ module _ (code : CodeParts) (start : State) where
   -- a child is sporked on arguments that suit its function, or there are too many
   sporked_fine : (g : ℕ) (callee : Fun) (arguments : List Datum) (s : State)
       → slice_get code.funs g ≡ Some callee
-      → Suit code.classes s.store.objects (params_of callee) arguments → IsFitState code start s
+      → Suit code.classes (shapes_of s.store) (params_of callee) arguments → IsFitState code start s
       → Fine (λ child. IsFitState code start child.state
-      × (s.store.objects ≡ child.state.store.objects)) (sporked g arguments s)
+      × (shapes_of s.store ≡ shapes_of child.state.store)) (sporked g arguments s)
   unfolding sporked
   sporked_fine g callee arguments s at suits state =
       child_where (nat_lt s.store.sporks MAX_SPORKS) (λ child. IsFitState code start child.state
-      × (s.store.objects ≡ child.state.store.objects)) _ (λ e. (
+      × (shapes_of s.store ≡ shapes_of child.state.store)) _ (λ e. (
         acted_state _ (Sporked s.store.next_shred g arguments) (grown_state s _ state (
           numbered_fits s.store state.store (ltb-true s.store.sporks MAX_SPORKS e),
           refl,
-          kept_same s.store.objects,
+          kept_same (shapes_of s.store),
         )) (where_found (slice_get code.funs g) (λ fn.
-            Suit code.classes s.store.objects (params_of fn) arguments) callee at suits),
+            Suit code.classes (shapes_of s.store) (params_of fn) arguments) callee at suits),
         refl,
       ))
 
@@ -85,7 +85,7 @@ module _ (code : CodeParts) (verified : IsVerified code) (main : ℕ) (start : S
   Good e = IsFitEffect code typing main start e
 
   -- where a frame on top of others stands
-  abbrev Stand : Fun → Places → (f : ℕ) → List Frame → List Object → Type 0
+  abbrev Stand : Fun → Places → (f : ℕ) → List Frame → Shapes → Type 0
   Stand = Standing code typing main
 
   -- what is known of a function of a verified code
@@ -105,16 +105,16 @@ module _ (code : CodeParts) (verified : IsVerified code) (main : ℕ) (start : S
   module _ (fn : Fun) (places : Places) (f : ℕ) (rest : List Frame) where
     -- the caller waits with what is beneath the value
     caller_waits : (g p : ℕ) (result : Kind) (kinds wanted : List Kind) (l beneath : List Datum)
-        (objects : List Object) → Stand fn places f rest objects
+        (shapes : Shapes) → Stand fn places f rest shapes
         → slice_get typing.results g ≡ Some result
         → FoundWhere (step_at code f p) (λ step. IsCall step.instr)
         → AreAt places (p + 1) wanted → AllStand classes (result ∷ kinds) wanted
-        → Suit classes objects kinds beneath → Suit classes objects fn.locals l
-        → IsCalling code typing objects g (frame f (p + 1) l beneath)
-    caller_waits g p result kinds [] l beneath objects stands at called has stand held locals =
+        → Suit classes shapes kinds beneath → Suit classes shapes fn.locals l
+        → IsCalling code typing shapes g (frame f (p + 1) l beneath)
+    caller_waits g p result kinds [] l beneath shapes stands at called has stand held locals =
         absurd stand
     caller_waits g p result kinds (k
-        ∷ wanted) l beneath objects stands at called has stand held locals = record {
+        ∷ wanted) l beneath shapes stands at called has stand held locals = record {
           call = p;
           after = refl;
           called = called;
@@ -124,20 +124,20 @@ module _ (code : CodeParts) (verified : IsVerified code) (main : ℕ) (start : S
               AreAt places (p + 1) (k ∷ wanted)) places stands.operands has;
           result = where_found (slice_get typing.results g) (λ r. Stands classes r k) result at
               stand.0;
-          held = all_stand_suit classes objects kinds wanted beneath stand.1 held;
+          held = all_stand_suit classes shapes kinds wanted beneath stand.1 held;
           locals = where_found (slice_get code.funs f) (λ fn.
-              Suit classes objects fn.locals l) fn stands.fun locals;
+              Suit classes shapes fn.locals l) fn stands.fun locals;
         }
 
     -- a function begins, and the caller waits
     entered_fits : (g : ℕ) (callee : Fun) (result : Kind) (arguments : List Datum) (place : Place)
         (p : ℕ) (kinds : List Kind) (l beneath : List Datum) (s : State)
-        → Stand fn places f rest s.store.objects → slice_get code.funs g ≡ Some callee
+        → Stand fn places f rest (shapes_of s.store) → slice_get code.funs g ≡ Some callee
         → slice_get typing.results g ≡ Some result
         → FoundWhere (step_at code f p) (λ step. IsCall step.instr)
-        → Suit classes s.store.objects (params_of callee) arguments
+        → Suit classes (shapes_of s.store) (params_of callee) arguments
         → Finds classes places (p + 1) (result ∷ kinds)
-        → Suit classes s.store.objects kinds beneath → Suit classes s.store.objects fn.locals l
+        → Suit classes (shapes_of s.store) kinds beneath → Suit classes (shapes_of s.store) fn.locals l
         → IsFitState code start s → Good (entered callee g arguments place f p l beneath rest s)
     entered_fits g callee result arguments place p kinds l beneath s stands at at_result called
         suits finds held locals state =
@@ -149,7 +149,7 @@ module _ (code : CodeParts) (verified : IsVerified code) (main : ℕ) (start : S
         (λ s1 state1.
         good_try Good (λ ok. suc (length rest) ≤ MAX_CALLS) (room_for_call (length rest)) place s1 _
         (room_fine (length rest)) (λ trap. state1.0) (λ ok few. (
-          subst (λ store. AreFit code typing main store.objects
+          subst (λ store. AreFit code typing main (shapes_of store)
               (frame g 0 (first_locals callee.locals arguments) [] ∷ frame f (p + 1) l beneath
               ∷ rest)) (sym state1.1) (
                 record {
@@ -158,14 +158,14 @@ module _ (code : CodeParts) (verified : IsVerified code) (main : ℕ) (start : S
                       AreAt places 0 []) know.places know.operands know.fun.first;
                   held = tt;
                   locals = where_found (slice_get code.funs g) (λ fn.
-                      Suit classes s.store.objects fn.locals
+                      Suit classes (shapes_of s.store) fn.locals
                       (first_locals callee.locals arguments)) callee at
-                      (first_locals_suit classes s.store.objects callee.params callee.locals
+                      (first_locals_suit classes (shapes_of s.store) callee.params callee.locals
                       arguments
                       know.fun.params know.fun.locals suits);
                 },
                 (
-                  caller_waits g p result kinds found.0 l beneath s.store.objects stands at_result
+                  caller_waits g p result kinds found.0 l beneath (shapes_of s.store) stands at_result
                       called
                       found.1 found.2 held locals,
                   stands.beneath,
@@ -178,11 +178,11 @@ module _ (code : CodeParts) (verified : IsVerified code) (main : ℕ) (start : S
     -- a function's arguments are taken
     taken_fits : (g : ℕ) (callee : Fun) (place : Place) (kinds : List Kind) (ops : List Datum)
         (s : State) (P : List Kind → Type 0) (go : Taken → Effect)
-        → slice_get code.funs g ≡ Some callee → Suit classes s.store.objects kinds ops
+        → slice_get code.funs g ≡ Some callee → Suit classes (shapes_of s.store) kinds ops
         → IsFitState code start s → OnTop classes (reverse (params_of callee)) kinds P
         → ((t : Taken) (under : List Kind)
-        → Suit classes s.store.objects (params_of callee) t.arguments → P under
-        → Suit classes s.store.objects under t.beneath → Good (go t))
+        → Suit classes (shapes_of s.store) (params_of callee) t.arguments → P under
+        → Suit classes (shapes_of s.store) under t.beneath → Good (go t))
         → Good (tried (taken callee.params [] ops) place s go)
     taken_fits g callee place kinds ops s P go at held state top next =
         let count : length (params_of callee) ≡ callee.params =
@@ -192,15 +192,15 @@ module _ (code : CodeParts) (verified : IsVerified code) (main : ℕ) (start : S
           (known g callee at).fun.params,
         ) in
         good_try Good _ (taken callee.params [] ops) place s _
-        (arguments_fine classes s.store.objects
+        (arguments_fine classes (shapes_of s.store)
         (params_of callee) kinds ops callee.params _ count top held) (λ trap. state) (λ t suits.
         next t suits.1 suits.0 suits.2 suits.3)
 
     -- a call
     pub call_fits : (g p : ℕ) (place : Place) (kinds : List Kind) (l ops : List Datum) (s : State)
-        (oc : Option Fun) → Stand fn places f rest s.store.objects → slice_get code.funs g ≡ oc
+        (oc : Option Fun) → Stand fn places f rest (shapes_of s.store) → slice_get code.funs g ≡ oc
         → FoundWhere (step_at code f p) (λ step. IsCall step.instr)
-        → Suit classes s.store.objects kinds ops → Suit classes s.store.objects fn.locals l
+        → Suit classes (shapes_of s.store) kinds ops → Suit classes (shapes_of s.store) fn.locals l
         → IsFitState code start s
         → FoundWhere oc (λ callee. FoundWhere (slice_get typing.results g) (λ result.
         OnTop classes (reverse (params_of callee)) kinds (λ beneath.
@@ -226,15 +226,15 @@ module _ (code : CodeParts) (verified : IsVerified code) (main : ℕ) (start : S
     slot_fits : (slot n : ℕ) (place : Place) (kinds : List Kind) (ops : List Datum) (s : State)
         (c : ℕ) (P : Kind → List Kind → Type 0)
         (go : Fun → (g : ℕ) → (arguments beneath : List Datum) → Effect)
-        → Suit classes s.store.objects kinds ops → IsFitState code start s
+        → Suit classes (shapes_of s.store) kinds ops → IsFitState code start s
         → HasSlot code typing c slot (λ callee result. (n ≡ callee.params)
         × OnTop classes (reverse (One (ClassElem c) ∷ drop 1 (params_of callee))) kinds
         (P result))
         → ((g : ℕ) (method : Fun) (result : Kind) (arguments beneath : List Datum)
         (under : List Kind) → slice_get code.funs g ≡ Some method
         → slice_get typing.results g ≡ Some result
-        → Suit classes s.store.objects (params_of method) arguments → P result under
-        → Suit classes s.store.objects under beneath → Good (go method g arguments beneath))
+        → Suit classes (shapes_of s.store) (params_of method) arguments → P result under
+        → Suit classes (shapes_of s.store) under beneath → Good (go method g arguments beneath))
         → Good (tried (taken n [] ops) place s (λ t. on_top t.arguments (λ r others.
         tried (method_of classes s.store.objects r slot) place s (λ g.
         with_fun (slice_get code.funs g) (λ fn. pick (nat_eq (length (r ∷ others)) fn.params)
@@ -243,20 +243,20 @@ module _ (code : CodeParts) (verified : IsVerified code) (main : ℕ) (start : S
         let has = slot_is code verified c slot _ slots in
         let others = drop 1 (params_of has.old) in
         good_try Good _ (taken n [] ops) place s _
-        (arguments_fine classes s.store.objects (One (ClassElem c) ∷ others) kinds ops n _
+        (arguments_fine classes (shapes_of s.store) (One (ClassElem c) ∷ others) kinds ops n _
         (has.count ∙ sym has.holds.0) has.holds.1 held) (λ trap. state) (λ t suits.
-        good_top Good classes s.store.objects
+        good_top Good classes (shapes_of s.store)
         (λ j beneath. (j ≡ One (ClassElem c)) × (beneath ≡ others))
         (One (ClassElem c) ∷ others) t.arguments _ (refl, refl) suits.0
         (λ j beneath r rest_args is suits_r suits_others.
-        good_try Good (IsMethod code verified s.store.objects r has.old has.result)
+        good_try Good (IsMethod code verified (shapes_of s.store) r has.old has.result)
         (method_of classes s.store.objects r slot) place s _
-        (method_fine code verified s.store.objects r c slot _ has
-        (subst (λ k. Suits classes s.store.objects k r) is.0 suits_r)) (λ trap. state) (λ h method.
-        let args : Suit classes s.store.objects (params_of method.fn) (r ∷ rest_args) =
-        subst (λ ks. Suit classes s.store.objects ks (r ∷ rest_args)) (sym method.params) (
+        (method_fine code verified s.store.units s.store.objects r c slot _ has
+        (subst (λ k. Suits classes (shapes_of s.store) k r) is.0 suits_r)) (λ trap. state) (λ h method.
+        let args : Suit classes (shapes_of s.store) (params_of method.fn) (r ∷ rest_args) =
+        subst (λ ks. Suit classes (shapes_of s.store) ks (r ∷ rest_args)) (sym method.params) (
           method.takes,
-          subst (λ ks. Suit classes s.store.objects ks rest_args) (is.1 ∙ sym method.same)
+          subst (λ ks. Suit classes (shapes_of s.store) ks rest_args) (is.1 ∙ sym method.same)
               suits_others,
         ) in
         let full : length (params_of method.fn) ≡ method.fn.params =
@@ -267,7 +267,7 @@ module _ (code : CodeParts) (verified : IsVerified code) (main : ℕ) (start : S
         ) in
         found_fits (slice_get code.funs h) method.fn (length (r ∷ rest_args))
         (λ fn. go fn h (r ∷ rest_args) t.beneath) method.at
-        (sym (suit_length classes s.store.objects (params_of method.fn)
+        (sym (suit_length classes (shapes_of s.store) (params_of method.fn)
         (r ∷ rest_args) args) ∙ full)
         (next h method.fn has.result (r ∷ rest_args) t.beneath suits.1 method.at method.result_is
         args suits.2 suits.3))))
@@ -290,17 +290,17 @@ module _ (code : CodeParts) (verified : IsVerified code) (main : ℕ) (start : S
 
     -- a call of the function in a slot
     pub virtual_fits : (slot n p : ℕ) (place : Place) (kinds : List Kind) (l ops : List Datum)
-        (s : State) → Stand fn places f rest s.store.objects
+        (s : State) → Stand fn places f rest (shapes_of s.store)
         → FoundWhere (step_at code f p) (λ step. IsCall step.instr)
-        → Suit classes s.store.objects kinds ops → Suit classes s.store.objects fn.locals l
+        → Suit classes (shapes_of s.store) kinds ops → Suit classes (shapes_of s.store) fn.locals l
         → IsFitState code start s → Fits code typing fn f places p (Virtual slot n) kinds
         → Good (tried (taken n [] ops) place s (λ t. on_top t.arguments (λ r others.
         tried (method_of classes s.store.objects r slot) place s (λ g.
         sent code g (r ∷ others) place f p l t.beneath rest s))))
     virtual_fits slot n p place kinds l ops s stands called held locals state fits =
         let receiver = found_is (slice_get ops fits.0) _
-        (receiver_suits classes s.store.objects fits.0 kinds ops _ held fits.2) in
-        null_or classes s.store.objects receiver.2.0 receiver.0 receiver.2.1 receiver.2.2 (λ null.
+        (receiver_suits classes (shapes_of s.store) fits.0 kinds ops _ held fits.2) in
+        null_or classes (shapes_of s.store) receiver.2.0 receiver.0 receiver.2.1 receiver.2.2 (λ null.
         null_slot_fits slot fits.0 n place ops s (λ g r others beneath.
         sent code g (r ∷ others) place f p l beneath rest s) fits.1
         (where_found (slice_get ops fits.0) IsNull receiver.0 receiver.1 null) state) (λ slots.
@@ -313,10 +313,10 @@ module _ (code : CodeParts) (verified : IsVerified code) (main : ℕ) (start : S
     -- a child is sporked
     child_fits : (g : ℕ) (callee : Fun) (arguments : List Datum) (place : Place) (p : ℕ)
         (kinds : List Kind) (l beneath : List Datum) (s : State)
-        → Stand fn places f rest s.store.objects → slice_get code.funs g ≡ Some callee
-        → Suit classes s.store.objects (params_of callee) arguments
+        → Stand fn places f rest (shapes_of s.store) → slice_get code.funs g ≡ Some callee
+        → Suit classes (shapes_of s.store) (params_of callee) arguments
         → Finds classes places (p + 1) (One ShredElem ∷ kinds)
-        → Suit classes s.store.objects kinds beneath → Suit classes s.store.objects fn.locals l
+        → Suit classes (shapes_of s.store) kinds beneath → Suit classes (shapes_of s.store) fn.locals l
         → IsFitState code start s → Good (sporks_child place g arguments f p l beneath rest s)
     child_fits g callee arguments place p kinds l beneath s stands at suits finds held locals
         state =
@@ -326,21 +326,21 @@ module _ (code : CodeParts) (verified : IsVerified code) (main : ℕ) (start : S
         (λ s1 state1.
         let same : s.store ≡ s1.store = sym state1.1 in
         good_try Good (λ child. IsFitState code start child.state
-        × (s1.store.objects ≡ child.state.store.objects)) (sporked g arguments s1) place s1 _
+        × (shapes_of s1.store ≡ shapes_of child.state.store)) (sporked g arguments s1) place s1 _
         (sporked_fine code start g callee arguments s1 at (subst (λ store.
-        Suit classes store.objects (params_of callee) arguments) same suits) state1.0)
+        Suit classes (shapes_of store) (params_of callee) arguments) same suits) state1.0)
         (λ trap. state1.0) (λ child fit.
-        let kept : s.store.objects ≡ child.state.store.objects =
-        ap (λ store. store.objects) same ∙ fit.1 in
+        let kept : shapes_of s.store ≡ shapes_of child.state.store =
+        ap shapes_of same ∙ fit.1 in
         next_fits fn places f rest (p + 1) (One ShredElem ∷ kinds) l
         (AShred child.number ∷ beneath) child.state (subst (Stand fn places f rest) kept stands)
-        finds (tt, subst (λ objects. Suit classes objects kinds beneath) kept held)
-        (subst (λ objects. Suit classes objects fn.locals l) kept locals) fit.0))
+        finds (tt, subst (λ shapes. Suit classes shapes kinds beneath) kept held)
+        (subst (λ shapes. Suit classes shapes fn.locals l) kept locals) fit.0))
 
     -- a spork of a function
     pub spork_fits : (g p : ℕ) (place : Place) (kinds : List Kind) (l ops : List Datum) (s : State)
-        (oc : Option Fun) → Stand fn places f rest s.store.objects → slice_get code.funs g ≡ oc
-        → Suit classes s.store.objects kinds ops → Suit classes s.store.objects fn.locals l
+        (oc : Option Fun) → Stand fn places f rest (shapes_of s.store) → slice_get code.funs g ≡ oc
+        → Suit classes (shapes_of s.store) kinds ops → Suit classes (shapes_of s.store) fn.locals l
         → IsFitState code start s
         → FoundWhere oc (λ callee. OnTop classes (reverse (params_of callee)) kinds (λ beneath.
         Finds classes places (p + 1) (One ShredElem ∷ beneath)))
@@ -354,16 +354,16 @@ module _ (code : CodeParts) (verified : IsVerified code) (main : ℕ) (start : S
 
     -- a spork of the function in a slot
     pub spork_virtual_fits : (slot n p : ℕ) (place : Place) (kinds : List Kind)
-        (l ops : List Datum) (s : State) → Stand fn places f rest s.store.objects
-        → Suit classes s.store.objects kinds ops → Suit classes s.store.objects fn.locals l
+        (l ops : List Datum) (s : State) → Stand fn places f rest (shapes_of s.store)
+        → Suit classes (shapes_of s.store) kinds ops → Suit classes (shapes_of s.store) fn.locals l
         → IsFitState code start s → Fits code typing fn f places p (SporkVirtual slot n) kinds
         → Good (tried (taken n [] ops) place s (λ t. on_top t.arguments (λ r others.
         tried (method_of classes s.store.objects r slot) place s (λ g.
         sporks_found code place g (r ∷ others) f p l t.beneath rest s))))
     spork_virtual_fits slot n p place kinds l ops s stands held locals state fits =
         let receiver = found_is (slice_get ops fits.0) _
-        (receiver_suits classes s.store.objects fits.0 kinds ops _ held fits.2) in
-        null_or classes s.store.objects receiver.2.0 receiver.0 receiver.2.1 receiver.2.2 (λ null.
+        (receiver_suits classes (shapes_of s.store) fits.0 kinds ops _ held fits.2) in
+        null_or classes (shapes_of s.store) receiver.2.0 receiver.0 receiver.2.1 receiver.2.2 (λ null.
         null_slot_fits slot fits.0 n place ops s (λ g r others beneath.
         sporks_found code place g (r ∷ others) f p l beneath rest s) fits.1
         (where_found (slice_get ops fits.0) IsNull receiver.0 receiver.1 null) state) (λ slots.

@@ -8,7 +8,7 @@ use Rattle.ugen_names.specs.declared.param.Param.{Param as Parameter}
 use Rattle.ugen_names.specs.declared.table.UgenKind.{UgenKind}
 use Rattle.ugen_names.specs.declared.table.UgenKind.TheVariants.{UGen, Dac as DacKind, Blackhole}
 use Rattle.ck_values.specs.Datum.{Datum, ARef}
-use Rattle.ck_store.specs.Store.{Object, OfUnit, shape_at, Store, State, Try}
+use Rattle.ck_store.specs.Store.{OfUnit, Store, State, Try, Shapes, shapes_of}
 use Rattle.ck_store.specs.Graph.{unit_made, unit_of, connected, disconnected, parameter_of, ReadBack, parameter_set}
 use Rattle.ck_typed.specs.declared.class.Class.{Class}
 use Rattle.ck_typed.specs.Signatures.{parameter}
@@ -29,14 +29,14 @@ use Rattle.ck_code.proofs.Frames.{Stand, good_try, good_trap, good_top, next_fit
 module _ (code : CodeParts) (typing : Typing) (main : ℕ) (start : State) (fn : Fun)
     (places : Places) (f : ℕ) (rest : List Frame) (shred : ℕ) (place : Place) (p : ℕ)
     (kinds : List Kind) (l ops : List Datum) (s : State)
-    (stands : Stand code typing main fn places f rest s.store.objects)
-    (held : Suit code.classes s.store.objects kinds ops)
-    (locals : Suit code.classes s.store.objects fn.locals l) (state : IsFitState code start s) where
+    (stands : Stand code typing main fn places f rest (shapes_of s.store))
+    (held : Suit code.classes (shapes_of s.store) kinds ops)
+    (locals : Suit code.classes (shapes_of s.store) fn.locals l) (state : IsFitState code start s) where
   abbrev classes : List Class
   classes = code.classes
 
-  abbrev objects : List Object
-  objects = s.store.objects
+  abbrev shapes : Shapes
+  shapes = shapes_of s.store
 
   -- an instruction leads to what fits
   abbrev Good : Effect → Type 0
@@ -47,7 +47,7 @@ module _ (code : CodeParts) (typing : Typing) (main : ℕ) (start : State) (fn :
   dac_fits fits =
       next_fits fn places f rest (p + 1) (One (UnitElem UGen) ∷ kinds) l (ARef 1 ∷ ops) s stands
       fits (
-        where_found (shape_at objects 0) (IsOfUnit UGen) (OfUnit DacKind)
+        where_found (shapes 0) (IsOfUnit UGen) (OfUnit DacKind)
             state.store.graph.output (inl refl),
         held,
       ) locals state
@@ -57,7 +57,7 @@ module _ (code : CodeParts) (typing : Typing) (main : ℕ) (start : State) (fn :
   hole_fits fits =
       next_fits fn places f rest (p + 1) (One (UnitElem UGen) ∷ kinds) l (ARef 2 ∷ ops) s stands
       fits (
-        where_found (shape_at objects 1) (IsOfUnit UGen) (OfUnit Blackhole)
+        where_found (shapes 1) (IsOfUnit UGen) (OfUnit Blackhole)
             state.store.graph.hole (inl refl),
         held,
       ) locals state
@@ -72,22 +72,22 @@ module _ (code : CodeParts) (typing : Typing) (main : ℕ) (start : State) (fn :
 
   -- a step on two unit generators, of which the upper one stays
   joins_fit : (step : Datum → Datum → Store → Try Store)
-      → ((u w : UgenKind) (a b : Datum) → Suits classes objects (One (UnitElem u)) a
-      → Suits classes objects (One (UnitElem w)) b → Fine (Grown code s.store) (step a b s.store))
+      → ((u w : UgenKind) (a b : Datum) → Suits classes shapes (One (UnitElem u)) a
+      → Suits classes shapes (One (UnitElem w)) b → Fine (Grown code s.store) (step a b s.store))
       → ((a b : Datum) → IsNull a → Traps (step a b s.store))
-      → ((u : UgenKind) (a b : Datum) → Suits classes objects (One (UnitElem u)) a → IsNull b
+      → ((u : UgenKind) (a b : Datum) → Suits classes shapes (One (UnitElem u)) a → IsNull b
       → Traps (step a b s.store))
       → OnUnits classes kinds (λ j beneath. Finds classes places (p + 1) (j ∷ beneath))
       → Good (joins place step f p l ops rest s)
   joins_fit step fine from to fits =
-      good_top Good classes objects _ kinds ops _ fits held (λ j kinds1 b lower below is_b suit1.
-      good_top Good classes objects _ kinds1 lower _ below suit1
+      good_top Good classes shapes _ kinds ops _ fits held (λ j kinds1 b lower below is_b suit1.
+      good_top Good classes shapes _ kinds1 lower _ below suit1
       (λ i beneath a under top is_a suit.
-      let suits_a = stands_suits classes objects i (One (UnitElem top.0)) a top.3 is_a in
-      let suits_b = stands_suits classes objects j (One (UnitElem top.1)) b top.2 is_b in
-      null_or classes objects i a top.4 is_a (λ null.
+      let suits_a = stands_suits classes shapes i (One (UnitElem top.0)) a top.3 is_a in
+      let suits_b = stands_suits classes shapes j (One (UnitElem top.1)) b top.2 is_b in
+      null_or classes shapes i a top.4 is_a (λ null.
       good_trap Good (step a b s.store) place s _ (from a b null) (λ trap. state)) (λ more.
-      null_or classes objects j b more is_b (λ null.
+      null_or classes shapes j b more is_b (λ null.
       good_trap Good (step a b s.store) place s _ (to top.0 a b suits_a null) (λ trap. state))
       (λ finds.
       good_try Good (Grown code s.store) (step a b s.store) place s _
@@ -99,9 +99,9 @@ module _ (code : CodeParts) (typing : Typing) (main : ℕ) (start : State) (fn :
       ) locals state grown)))))
 
   -- what suits a type of unit generators refers to one, unless it is null
-  there : (u : UgenKind) (a : Datum) → Suits classes objects (One (UnitElem u)) a
+  there : (u : UgenKind) (a : Datum) → Suits classes shapes (One (UnitElem u)) a
       → Fine (IsUnitAt s.store u) (unit_of s.store a)
-  there u a is = unit_of_fine s.store u state.store.graph classes a is
+  there u a is = unit_of_fine s.store u classes a is
 
   pub connect_fits : Fits code typing fn f places p Connect kinds
       → Good (effect code shred Connect place f p l ops rest s)
@@ -120,15 +120,15 @@ module _ (code : CodeParts) (typing : Typing) (main : ℕ) (start : State) (fn :
   pub param_fits : (q : Parameter) → Fits code typing fn f places p (Param q) kinds
       → Good (effect code shred (Param q) place f p l ops rest s)
   param_fits q fits =
-      good_top Good classes objects _ kinds ops _ fits held (λ j beneath r under unit is_r suit.
-      null_or classes objects j r unit is_r (λ null.
+      good_top Good classes shapes _ kinds ops _ fits held (λ j beneath r under unit is_r suit.
+      null_or classes shapes j r unit is_r (λ null.
       good_trap Good (parameter_of q r s.store) place s _ (param_traps s.store r null q)
       (λ trap. state)) (λ top.
       let u = top.0 in
       let w = found_is (parameter u q) _ top.1 in
-      good_try Good (IsOf classes objects w.0.elem) (parameter_of q r s.store) place s _
+      good_try Good (IsOf classes shapes w.0.elem) (parameter_of q r s.store) place s _
       (parameter_of_fine code s.store state.store u q w.0 w.1 r
-      (stands_suits classes objects j (One (UnitElem u)) r w.2.0 is_r)) (λ trap. state) (λ v is_v.
+      (stands_suits classes shapes j (One (UnitElem u)) r w.2.0 is_r)) (λ trap. state) (λ v is_v.
       next_fits fn places f rest (p + 1) (One w.0.elem ∷ beneath) l (v ∷ under) s stands w.2.1 (
         is_v,
         suit,
@@ -137,19 +137,19 @@ module _ (code : CodeParts) (typing : Typing) (main : ℕ) (start : State) (fn :
   pub set_param_fits : (q : Parameter) → Fits code typing fn f places p (SetParam q) kinds
       → Good (effect code shred (SetParam q) place f p l ops rest s)
   set_param_fits q fits =
-      good_top Good classes objects _ kinds ops _ fits held (λ j kinds1 v lower below is_v suit1.
-      good_top Good classes objects _ kinds1 lower _ below suit1
+      good_top Good classes shapes _ kinds ops _ fits held (λ j kinds1 v lower below is_v suit1.
+      good_top Good classes shapes _ kinds1 lower _ below suit1
       (λ i beneath r under unit is_r suit.
-      null_or classes objects i r unit is_r (λ null.
+      null_or classes shapes i r unit is_r (λ null.
       good_trap Good (parameter_set q r v s.store) place s _ (set_param_traps s.store r null q v)
       (λ trap. state)) (λ top.
       let u = top.0 in
       let w = found_is (parameter u q) _ top.1 in
       let e = w.0.elem in
-      good_try Good (λ (set : ReadBack). IsOf classes objects e set.value
+      good_try Good (λ (set : ReadBack). IsOf classes shapes e set.value
       × Grown code s.store set.store) (parameter_set q r v s.store) place s _
       (parameter_set_fine code s.store state.store u q w.0 w.1 r
-      (stands_suits classes objects i (One (UnitElem u)) r w.2.2 is_r) v w.2.0
-      (stands_suits classes objects j (One e) v w.2.1 is_v)) (λ trap. state) (λ set h.
+      (stands_suits classes shapes i (One (UnitElem u)) r w.2.2 is_r) v w.2.0
+      (stands_suits classes shapes j (One e) v w.2.1 is_v)) (λ trap. state) (λ set h.
       grown_fits fn places f rest (p + 1) (One e ∷ beneath) l (set.value ∷ under) s set.store
       stands w.2.3 (h.0, suit) locals state h.1))))

@@ -12,7 +12,7 @@ use Rattle.ck_values.specs.declared.trap.Place.{Place}
 use Rattle.ck_values.specs.declared.trap.Trap.{Trap}
 use Rattle.ck_values.specs.declared.trap.Trap.TheVariants.{CallDepth}
 use Rattle.ck_values.specs.Datum.{Datum}
-use Rattle.ck_store.specs.Store.{Object, Keeps, Store, State, Request, At, On, End, Act, Try, Gives, Fails, Misfit}
+use Rattle.ck_store.specs.Store.{Keeps, Store, State, Request, At, On, End, Act, Try, Gives, Fails, Misfit, Shapes, shapes_of}
 use Rattle.ck_store.specs.Steps.{pick, spent_from, room_for_call}
 use Rattle.ck_store.specs.Objects.{Made}
 use Rattle.ck_store.specs.Shreds.{with_act}
@@ -36,7 +36,7 @@ where_goes End P h = tt
 
 module _ (code : CodeParts) (typing : Typing) (main : ℕ) where
   -- frames that wait go on to fit as the store grows
-  calling_kept : (before after : List Object) → Keeps before after → (g : ℕ) (rest : List Frame)
+  calling_kept : (before after : Shapes) → Keeps before after → (g : ℕ) (rest : List Frame)
       → AreCalling code typing main before g rest → AreCalling code typing main after g rest
   calling_kept before after kept g [] h = h
   calling_kept before after kept g (below ∷ rest) h =
@@ -57,7 +57,7 @@ module _ (code : CodeParts) (typing : Typing) (main : ℕ) where
       )
 
   -- so do all frames
-  pub frames_kept : (before after : List Object) → Keeps before after → (frames : List Frame)
+  pub frames_kept : (before after : Shapes) → Keeps before after → (frames : List Frame)
       → AreFit code typing main before frames → AreFit code typing main after frames
   frames_kept before after kept [] h = h
   frames_kept before after kept (top ∷ rest) h =
@@ -75,14 +75,14 @@ module _ (code : CodeParts) (typing : Typing) (main : ℕ) where
 
   -- where a frame on top of others stands
   pub record Stand (fn : Fun) (places : Places) (f : ℕ) (rest : List Frame)
-      (objects : List Object) : Type 0 where
+      (shapes : Shapes) : Type 0 where
     pub fun : slice_get code.funs f ≡ Some fn
     pub operands : slice_get typing.operands f ≡ Some places
-    pub beneath : AreCalling code typing main objects f rest
+    pub beneath : AreCalling code typing main shapes f rest
     pub few : length rest ≤ MAX_CALLS
 
   pub stand_kept : (fn : Fun) (places : Places) (f : ℕ) (rest : List Frame)
-      (before after : List Object) → Keeps before after → Stand fn places f rest before
+      (before after : Shapes) → Keeps before after → Stand fn places f rest before
       → Stand fn places f rest after
   stand_kept fn places f rest before after kept h =
       record {
@@ -130,19 +130,19 @@ module _ {code : CodeParts} {start : State} where
         store = g.0;
         time = g.1 ∙ h.time;
         turns = h.turns;
-        acts = λ all i d lt. act_kept code s.store.objects store.objects g.2 _ (h.acts all i d lt);
-        kept = kept_trans start.store.objects s.store.objects store.objects h.kept g.2;
+        acts = λ all i d lt. act_kept code (shapes_of s.store) (shapes_of store) g.2 _ (h.acts all i d lt);
+        kept = kept_trans (shapes_of start.store) (shapes_of s.store) (shapes_of store) h.kept g.2;
       }
 
   -- a state with one act more
   pub acted_state : (s : State) (act : Act) → IsFitState code start s
-      → IsFitAct code s.store.objects act → IsFitState code start (with_act act s)
+      → IsFitAct code (shapes_of s.store) act → IsFitState code start (with_act act s)
   acted_state s act h fits =
       record {
         store = h.store;
         time = h.time;
         turns = h.turns;
-        acts = λ all. All-snoc (IsFitAct code s.store.objects) s.acts act (h.acts all) fits;
+        acts = λ all. All-snoc (IsFitAct code (shapes_of s.store)) s.acts act (h.acts all) fits;
         kept = h.kept;
       }
 
@@ -163,16 +163,16 @@ module _ (Good : Effect → Type 0) where
       good_try (λ a. ⊥) t place s go traps fails (λ a never. absurd never)
 
   -- after the top operand is taken
-  pub good_top : (classes : List Class) (objects : List Object)
+  pub good_top : (classes : List Class) (shapes : Shapes)
       (P : Kind → List Kind → Type 0) (kinds : List Kind) (ops : List Datum)
       (go : Datum → List Datum → Effect) → Topped kinds P
-      → Suit classes objects kinds ops
+      → Suit classes shapes kinds ops
       → ((j : Kind) (beneath : List Kind) (v : Datum) (under : List Datum) → P j beneath
-      → Suits classes objects j v → Suit classes objects beneath under → Good (go v under))
+      → Suits classes shapes j v → Suit classes shapes beneath under → Good (go v under))
       → Good (on_top ops go)
-  good_top classes objects P [] ops go top held next = absurd top
-  good_top classes objects P (j ∷ kinds) [] go top held next = absurd held
-  good_top classes objects P (j ∷ kinds) (v ∷ under) go top held next =
+  good_top classes shapes P [] ops go top held next = absurd top
+  good_top classes shapes P (j ∷ kinds) [] go top held next = absurd held
+  good_top classes shapes P (j ∷ kinds) (v ∷ under) go top held next =
       next j kinds v under top held.0 held.1
 
   -- after the first of what was taken
@@ -187,10 +187,10 @@ module _ {code : CodeParts} {typing : Typing} {main : ℕ} {start : State} (fn :
     (places : Places) (f : ℕ) (rest : List Frame) where
   -- the function goes on at a place that is reached with what it holds
   pub next_fits : (q : ℕ) (kinds : List Kind) (l ops : List Datum) (s : State)
-      → Stand code typing main fn places f rest s.store.objects
+      → Stand code typing main fn places f rest (shapes_of s.store)
       → Finds code.classes places q kinds
-      → Suit code.classes s.store.objects kinds ops
-      → Suit code.classes s.store.objects fn.locals l
+      → Suit code.classes (shapes_of s.store) kinds ops
+      → Suit code.classes (shapes_of s.store) fn.locals l
       → IsFitState code start s
       → IsFitEffect code typing main start (Next (frame f q l ops ∷ rest) s)
   next_fits q kinds l ops s stands finds held locals state =
@@ -200,9 +200,9 @@ module _ {code : CodeParts} {typing : Typing} {main : ℕ} {start : State} (fn :
             kinds = at.0;
             asked = where_found (slice_get typing.operands f) (λ places.
                 AreAt places q at.0) places stands.operands at.1;
-            held = all_stand_suit code.classes s.store.objects kinds at.0 ops at.2 held;
+            held = all_stand_suit code.classes (shapes_of s.store) kinds at.0 ops at.2 held;
             locals = where_found (slice_get code.funs f) (λ fn.
-                Suit code.classes s.store.objects fn.locals l) fn stands.fun locals;
+                Suit code.classes (shapes_of s.store) fn.locals l) fn stands.fun locals;
           },
           stands.beneath,
           stands.few,
@@ -212,51 +212,51 @@ module _ {code : CodeParts} {typing : Typing} {main : ℕ} {start : State} (fn :
 
   -- the same where the store has grown
   pub grown_fits : (q : ℕ) (kinds : List Kind) (l ops : List Datum) (s : State) (store : Store)
-      → Stand code typing main fn places f rest s.store.objects
+      → Stand code typing main fn places f rest (shapes_of s.store)
       → Finds code.classes places q kinds
-      → Suit code.classes s.store.objects kinds ops
-      → Suit code.classes s.store.objects fn.locals l
+      → Suit code.classes (shapes_of s.store) kinds ops
+      → Suit code.classes (shapes_of s.store) fn.locals l
       → IsFitState code start s → Grown code s.store store
       → IsFitEffect code typing main start
       (Next (frame f q l ops ∷ rest) (record s { store = store }))
   grown_fits q kinds l ops s store stands finds held locals state grown =
       let kept = grown.2 in
       next_fits q kinds l ops (record s { store = store })
-      (stand_kept code typing main fn places f rest s.store.objects store.objects kept stands)
+      (stand_kept code typing main fn places f rest (shapes_of s.store) (shapes_of store) kept stands)
       finds
-      (suit_kept code.classes s.store.objects store.objects kept kinds ops held)
-      (suit_kept code.classes s.store.objects store.objects kept fn.locals l locals)
+      (suit_kept code.classes (shapes_of s.store) (shapes_of store) kept kinds ops held)
+      (suit_kept code.classes (shapes_of s.store) (shapes_of store) kept fn.locals l locals)
       (grown_state s store state grown)
 
   -- the top operand is replaced by what a step makes of it
   pub replaced_fits : (e r : Elem) (step : Datum → Try Datum) (place : Place) (p : ℕ)
       (kinds : List Kind) (l ops : List Datum) (s : State)
-      → ((x : Datum) → IsOf code.classes s.store.objects e x
-      → Fine (IsOf code.classes s.store.objects r) (step x))
-      → Stand code typing main fn places f rest s.store.objects
-      → Suit code.classes s.store.objects kinds ops
-      → Suit code.classes s.store.objects fn.locals l → IsFitState code start s
+      → ((x : Datum) → IsOf code.classes (shapes_of s.store) e x
+      → Fine (IsOf code.classes (shapes_of s.store) r) (step x))
+      → Stand code typing main fn places f rest (shapes_of s.store)
+      → Suit code.classes (shapes_of s.store) kinds ops
+      → Suit code.classes (shapes_of s.store) fn.locals l → IsFitState code start s
       → OnTop code.classes (One e ∷ []) kinds (λ beneath.
       Finds code.classes places (p + 1) (One r ∷ beneath))
       → IsFitEffect code typing main start (on_top ops (λ x under. tried (step x) place s (λ v.
       Next (frame f (p + 1) l (v ∷ under) ∷ rest) s)))
   replaced_fits e r step place p kinds l ops s fine stands held locals state fits =
-      good_top (IsFitEffect code typing main start) code.classes s.store.objects _ kinds ops _
+      good_top (IsFitEffect code typing main start) code.classes (shapes_of s.store) _ kinds ops _
       fits held (λ j beneath x under top is suit.
-      good_try (IsFitEffect code typing main start) (IsOf code.classes s.store.objects r) (step x)
+      good_try (IsFitEffect code typing main start) (IsOf code.classes (shapes_of s.store) r) (step x)
       place s _
-      (fine x (stands_suits code.classes s.store.objects j (One e) x top.0 is)) (λ trap. state)
+      (fine x (stands_suits code.classes (shapes_of s.store) j (One e) x top.0 is)) (λ trap. state)
       (λ v is_v.
       next_fits (p + 1) (One r ∷ beneath) l (v ∷ under) s stands top.1 (is_v, suit) locals state))
 
   -- the shred stops, and goes on at the next place
   pub stops_fit : (q : Request) (place : Place) (p : ℕ) (kinds : List Kind) (l ops : List Datum)
-      (s : State) → IsFitRequest code.classes s.store.objects s.store.now q
+      (s : State) → IsFitRequest code.classes (shapes_of s.store) s.store.now q
       → FoundWhere (step_at code f p) (λ step. IsWait step.instr)
-      → Stand code typing main fn places f rest s.store.objects
+      → Stand code typing main fn places f rest (shapes_of s.store)
       → Finds code.classes places (p + 1) kinds
-      → Suit code.classes s.store.objects kinds ops
-      → Suit code.classes s.store.objects fn.locals l → IsFitState code start s
+      → Suit code.classes (shapes_of s.store) kinds ops
+      → Suit code.classes (shapes_of s.store) fn.locals l → IsFitState code start s
       → IsFitEffect code typing main start (Stops q place (frame f (p + 1) l ops ∷ rest) s)
   stops_fit q place p kinds l ops s asked wait stands finds held locals state =
       let next = next_fits (p + 1) kinds l ops s stands finds held locals state in
@@ -270,40 +270,40 @@ module _ {code : CodeParts} {typing : Typing} {main : ℕ} {start : State} (fn :
   -- the shred waits as the top operand says
   pub waits_fit : (e : Elem) (asks : Datum → Store → Try Request) (place : Place) (p : ℕ)
       (kinds : List Kind) (l ops : List Datum) (s : State)
-      → ((v : Datum) → IsOf code.classes s.store.objects e v
-      → Fine (IsFitRequest code.classes s.store.objects s.store.now) (asks v s.store))
+      → ((v : Datum) → IsOf code.classes (shapes_of s.store) e v
+      → Fine (IsFitRequest code.classes (shapes_of s.store) s.store.now) (asks v s.store))
       → FoundWhere (step_at code f p) (λ step. IsWait step.instr)
-      → Stand code typing main fn places f rest s.store.objects
-      → Suit code.classes s.store.objects kinds ops
-      → Suit code.classes s.store.objects fn.locals l → IsFitState code start s
+      → Stand code typing main fn places f rest (shapes_of s.store)
+      → Suit code.classes (shapes_of s.store) kinds ops
+      → Suit code.classes (shapes_of s.store) fn.locals l → IsFitState code start s
       → OnTop code.classes (One e ∷ []) kinds
       (λ beneath. Finds code.classes places (p + 1) beneath)
       → IsFitEffect code typing main start
       (on_top ops (λ v under. tried (asks v s.store) place s (λ q.
       Stops q place (frame f (p + 1) l under ∷ rest) s)))
   waits_fit e asks place p kinds l ops s fine wait stands held locals state fits =
-      good_top (IsFitEffect code typing main start) code.classes s.store.objects _ kinds ops _
+      good_top (IsFitEffect code typing main start) code.classes (shapes_of s.store) _ kinds ops _
       fits held (λ j beneath v under top is suit.
       good_try (IsFitEffect code typing main start)
-      (IsFitRequest code.classes s.store.objects s.store.now) (asks v s.store) place s _
-      (fine v (stands_suits code.classes s.store.objects j (One e) v top.0 is)) (λ trap. state)
+      (IsFitRequest code.classes (shapes_of s.store) s.store.now) (asks v s.store) place s _
+      (fine v (stands_suits code.classes (shapes_of s.store) j (One e) v top.0 is)) (λ trap. state)
       (λ q asked. stops_fit q place p beneath l under s asked wait stands top.1 suit locals state))
 
   -- an object was made
   pub made_fits : (q : ℕ) (k : Kind) (kinds : List Kind) (l ops : List Datum) (s : State)
-      (made : Made) → Stand code typing main fn places f rest s.store.objects
+      (made : Made) → Stand code typing main fn places f rest (shapes_of s.store)
       → Finds code.classes places q (k ∷ kinds)
-      → Suit code.classes s.store.objects kinds ops
-      → Suit code.classes s.store.objects fn.locals l
+      → Suit code.classes (shapes_of s.store) kinds ops
+      → Suit code.classes (shapes_of s.store) fn.locals l
       → IsFitState code start s → Makes code s.store k made
       → IsFitEffect code typing main start
       (Next (frame f q l (made.reference ∷ ops) ∷ rest) (record s { store = made.store }))
   made_fits q k kinds l ops s made stands finds held locals state h =
       let kept = h.1.2 in
       next_fits q (k ∷ kinds) l (made.reference ∷ ops) (record s { store = made.store })
-      (stand_kept code typing main fn places f rest s.store.objects made.store.objects kept
+      (stand_kept code typing main fn places f rest (shapes_of s.store) (shapes_of made.store) kept
       stands) finds (
         h.0,
-        suit_kept code.classes s.store.objects made.store.objects kept kinds ops held,
-      ) (suit_kept code.classes s.store.objects made.store.objects kept fn.locals l locals)
+        suit_kept code.classes (shapes_of s.store) (shapes_of made.store) kept kinds ops held,
+      ) (suit_kept code.classes (shapes_of s.store) (shapes_of made.store) kept fn.locals l locals)
       (grown_state s made.store state h.1)

@@ -8,7 +8,7 @@ use Rattle.ck_values.specs.declared.kind.Kind.TheVariants.{Void, Null, One, Row,
 use Rattle.ugen_names.specs.declared.param.Param.{Param}
 use Rattle.ugen_names.specs.declared.table.UgenKind.TheVariants as ugen
 use Rattle.ck_values.specs.Datum.{Datum, AnInt, AFloat, ADur, ARef}
-use Rattle.ck_store.specs.Store.{Object, Store, State, Try, Gives, Fails, Misfit}
+use Rattle.ck_store.specs.Store.{Object, Store, State, Try, Gives, Fails, Misfit, Shapes, shapes_of}
 use Rattle.ck_store.specs.Steps.{and_then}
 use Rattle.ck_store.specs.Objects.{referred, field_of, with_field, method_of}
 use Rattle.ck_store.specs.Arrays.{array_at, item_of, with_item, item_count, has_item, filled, appended, cleared}
@@ -28,13 +28,13 @@ use Rattle.ck_code.specs.Fitting.{Suits, Suit, IsNull}
 use Rattle.ck_code.proofs.Suiting.{Fine, fine_then}
 
 -- an operand is null, or this holds of its kind
-pub null_or : (classes : List Class) (objects : List Object) {P Q : Type 0} (k : Kind) (v : Datum)
-    → UnlessNull k P → Suits classes objects k v → (IsNull v → Q) → (P → Q) → Q
-null_or classes objects Null v h is null other = null is
-null_or classes objects Void v h is null other = other h
-null_or classes objects (One e) v h is null other = other h
-null_or classes objects (Row e) v h is null other = other h
-null_or classes objects (Grid e) v h is null other = other h
+pub null_or : (classes : List Class) (shapes : Shapes) {P Q : Type 0} (k : Kind) (v : Datum)
+    → UnlessNull k P → Suits classes shapes k v → (IsNull v → Q) → (P → Q) → Q
+null_or classes shapes Null v h is null other = null is
+null_or classes shapes Void v h is null other = other h
+null_or classes shapes (One e) v h is null other = other h
+null_or classes shapes (Row e) v h is null other = other h
+null_or classes shapes (Grid e) v h is null other = other h
 
 -- a step ends by a trap
 abbrev pub Traps : {A : Type 0} → Try A → Type 0
@@ -164,16 +164,16 @@ module _ (classes : List Class) where
   abbrev OnNull : Native → List Kind → Type 0
   OnNull call kinds =
       (r : Datum) (args : List Datum) (s : State) → IsNull r
-      → Suit classes s.store.objects kinds (r ∷ args) → Traps (native call (r ∷ args) s)
+      → Suit classes (shapes_of s.store) kinds (r ∷ args) → Traps (native call (r ∷ args) s)
 
   -- no string and no shred is the null of references
-  no_text : (objects : List Object) (r : Datum) → IsNull r → Suits classes objects (One Text) r → ⊥
-  no_text objects (ARef n) null h = h
-  no_text objects _ null h = null
+  no_text : (shapes : Shapes) (r : Datum) → IsNull r → Suits classes shapes (One Text) r → ⊥
+  no_text shapes (ARef n) null h = h
+  no_text shapes _ null h = null
 
-  no_shred : (objects : List Object) (r : Datum) → IsNull r → Suits classes objects (One Shred) r → ⊥
-  no_shred objects (ARef n) null h = h
-  no_shred objects _ null h = null
+  no_shred : (shapes : Shapes) (r : Datum) → IsNull r → Suits classes shapes (One Shred) r → ⊥
+  no_shred shapes (ARef n) null h = h
+  no_shred shapes _ null h = null
 
   signal_traps : OnNull Signal (One (ClassElem 1) ∷ [])
   unfolding native
@@ -266,13 +266,13 @@ module _ (classes : List Class) where
   on_text : (call : Native) (on params : List Kind) → on ≡ One Text ∷ [] → OnNull call (on ++ params)
   on_text call on params is =
       subst (λ kinds. OnNull call (kinds ++ params)) (sym is)
-      (λ r args s null h. absurd (no_text s.store.objects r null h.0))
+      (λ r args s null h. absurd (no_text (shapes_of s.store) r null h.0))
 
   on_shred : (call : Native) (on params : List Kind) → on ≡ One Shred ∷ []
       → OnNull call (on ++ params)
   on_shred call on params is =
       subst (λ kinds. OnNull call (kinds ++ params)) (sym is)
-      (λ r args s null h. absurd (no_shred s.store.objects r null h.0))
+      (λ r args s null h. absurd (no_shred (shapes_of s.store) r null h.0))
 
   -- a built-in call that is made on something traps on null
   pub native_traps : (call : Native) (k : Kind) (ks : List Kind) → IsOn (by.built_in call).on (k ∷ ks)
@@ -325,11 +325,11 @@ fine_both P Q (Gives a) h g = (h, g)
 fine_both P Q (Fails trap) h g = tt
 fine_both P Q Misfit h g = h
 
-module _ (classes : List Class) (objects : List Object) where
+module _ (classes : List Class) (shapes : Shapes) where
   -- the operand beneath so many suits its kind
   pub receiver_suits : (n : ℕ) (kinds : List Kind) (ops : List Datum) (P : Kind → Type 0)
-      → Suit classes objects kinds ops → Receiver n kinds P
-      → FoundWhere (slice_get ops n) (λ v. (k : Kind) × P k × Suits classes objects k v)
+      → Suit classes shapes kinds ops → Receiver n kinds P
+      → FoundWhere (slice_get ops n) (λ v. (k : Kind) × P k × Suits classes shapes k v)
   receiver_suits n [] ops P held h = absurd h
   receiver_suits n (k ∷ kinds) [] P held h = absurd held
   receiver_suits zero (k ∷ kinds) (v ∷ ops) P held h = (k, h, held.0)
@@ -371,7 +371,7 @@ on_something call k ks is = omega (arith, on_one (by.built_in call).on k ks is)
 -- the operands of a call on null, the receiver first
 pub native_on_null : (classes : List Class) (call : Native) (k : Kind) (ks : List Kind)
     → IsOn (by.built_in call).on (k ∷ ks) → (args : List Datum) (s : State)
-    → Suit classes s.store.objects ((k ∷ ks) ++ map One (by.built_in call).params) args
+    → Suit classes (shapes_of s.store) ((k ∷ ks) ++ map One (by.built_in call).params) args
     → Headed args IsNull → Traps (native call args s)
 native_on_null classes call k ks is [] s h first = absurd first
 native_on_null classes call k ks is (r ∷ args) s h first =

@@ -1,13 +1,14 @@
 -- What class tables and objects keep: the fields and slots of the classes above, and a store that
 -- fits as an object is made or one of its fields is set.
-use Rattle.std.proofs.Common.{◌≡◌, ℕ, zero, suc, ◌<◌, ◌≤◌, List, [], ◌∷◌, ◌++◌, length, drop, map, Option, Some, None, option_map, refl, sym, ap, ◌∙◌, subst, arith, slice_get, slice_set}
+use Rattle.std.proofs.Common.{◌≡◌, ℕ, zero, suc, ◌<◌, ◌≤◌, List, [], ◌∷◌, ◌++◌, length, drop, map, Option, Some, None, refl, sym, ap, ◌∙◌, subst, arith, slice_get, slice_set, option_and_then}
 use Rattle.std.proofs.lemmas.List.{length-take}
 use Rattle.std.proofs.lemmas.Option.{slice_get_within}
 use Rattle.ck_values.specs.declared.kind.Elem.TheVariants.{Class as ClassElem}
 use Rattle.ck_values.specs.declared.kind.Kind.{Kind}
 use Rattle.ck_values.specs.declared.kind.Kind.TheVariants.{One}
 use Rattle.ck_values.specs.Datum.{Datum, ARef, first_value}
-use Rattle.ck_store.specs.Store.{Object, Instance, Items, UnitGenerator, OfClass, shape, shape_at, Store}
+use Rattle.ugen_sample.specs.UnitState.{Units, unit_at}
+use Rattle.ck_store.specs.Store.{Object, shape, Instance, Items, UnitGenerator, OfClass, Shapes, shape_at, Store, shapes_of}
 use Rattle.ck_store.specs.Steps.{and_then, found}
 use Rattle.ck_store.specs.Objects.{Inside, inside_of, referred, field_of, with_object, with_field, added, object_made, method_of}
 use Rattle.ck_typed.specs.declared.class.Class.{Class}
@@ -19,6 +20,7 @@ use Rattle.ck_code.specs.Verified.{Typing, HasField, HasSlot, params_of, HaveSam
 use Rattle.ck_code.specs.Fitting.{IsOfClass, Suits, Suit, IsFitObject, IsFitStore}
 use Rattle.ck_code.proofs.Standing.{found_is, where_found, same_found, found_more, refers_more}
 use Rattle.ck_code.proofs.Suiting.{Fine, fine_then, fine_map, suit_get, suit_set, first_all}
+use Rattle.ck_code.proofs.Placed.{of_unit}
 use Rattle.ck_code.proofs.Tables.{Grown, IsAdded, Makes, get_within, set_grown, added_fine}
 
 -- the front of a list
@@ -36,23 +38,26 @@ record IsInside (classes : List Class) (objects : List Object) (r : Datum) (c : 
   at : slice_get objects n ≡ Some (Instance o.class o.fields)
   below : IsBelow classes o.class c
 
-inside_so : (classes : List Class) (objects : List Object) (n c : ℕ) (o : Option Object)
-    → slice_get objects n ≡ o → FoundWhere (option_map shape o) (IsOfClass classes c)
+inside_so : (classes : List Class) (units : Units) (objects : List Object) (n c : ℕ)
+    (o : Option Object) → slice_get objects n ≡ o
+    → FoundWhere (option_and_then (shape units) o) (IsOfClass classes c)
     → Fine (IsInside classes objects (ARef (suc n)) c) (inside_of o)
-inside_so classes objects n c None e h = absurd h
-inside_so classes objects n c (Some (Instance d fields)) e h =
+inside_so classes units objects n c None e h = absurd h
+inside_so classes units objects n c (Some (Instance d fields)) e h =
     record { n = n; is = refl; at = e; below = h }
-inside_so classes objects n c (Some (Items el b items)) e h = absurd h
-inside_so classes objects n c (Some (UnitGenerator kind place)) e h = absurd h
+inside_so classes units objects n c (Some (Items el b items)) e h = absurd h
+inside_so classes units objects n c (Some (UnitGenerator place)) e h =
+    let unit = found_is (unit_at units place) _ (of_unit (IsOfClass classes c) units place h) in
+    absurd unit.2
 
-referred_fine : (classes : List Class) (objects : List Object) (r : Datum) (c : ℕ)
-    → Suits classes objects (One (ClassElem c)) r
+referred_fine : (classes : List Class) (units : Units) (objects : List Object) (r : Datum) (c : ℕ)
+    → Suits classes (shape_at units objects) (One (ClassElem c)) r
     → Fine (IsInside classes objects r c) (referred objects r)
 unfolding referred
-referred_fine classes objects (ARef zero) c h = tt
-referred_fine classes objects (ARef (suc n)) c h =
-    inside_so classes objects n c (slice_get objects n) refl h
-referred_fine classes objects _ c h = absurd h
+referred_fine classes units objects (ARef zero) c h = tt
+referred_fine classes units objects (ARef (suc n)) c h =
+    inside_so classes units objects n c (slice_get objects n) refl h
+referred_fine classes units objects _ c h = absurd h
 
 module _ (code : CodeParts) (verified : IsVerified code) where
   abbrev classes : List Class
@@ -112,46 +117,46 @@ module _ (code : CodeParts) (verified : IsVerified code) where
 
   -- a field suits its kind
   pub field_fine : (store : Store) (r : Datum) (c i : ℕ) (k : Kind) → IsFitStore code store
-      → Suits classes store.objects (One (ClassElem c)) r → HasField code c i (λ j. j ≡ k)
-      → Fine (Suits classes store.objects k) (field_of store r i)
+      → Suits classes (shapes_of store) (One (ClassElem c)) r → HasField code c i (λ j. j ≡ k)
+      → Fine (Suits classes (shapes_of store) k) (field_of store r i)
   unfolding field_of
   field_fine store r c i k fit suits has =
-      fine_then (IsInside classes store.objects r c) (Suits classes store.objects k)
-      (referred store.objects r) _ (referred_fine classes store.objects r c suits) (λ o is.
+      fine_then (IsInside classes store.objects r c) (Suits classes (shapes_of store) k)
+      (referred store.objects r) _ (referred_fine classes store.units store.objects r c suits) (λ o is.
       let class = found_is (slice_get classes o.class) _ (field_below is.below i k has) in
       let field = found_is (slice_get class.0.fields i) _ class.2 in
       let inside = same_found (slice_get classes o.class) (λ class.
-      Suit classes store.objects class.fields o.fields) class.0 class.1
+      Suit classes (shapes_of store) class.fields o.fields) class.0 class.1
       (fit.objects.each is.n _ is.at) in
-      subst (λ x. Fine (Suits classes store.objects x) (found (slice_get o.fields i))) field.2
-      (suit_get classes store.objects class.0.fields o.fields i field.0 inside field.1))
+      subst (λ x. Fine (Suits classes (shapes_of store) x) (found (slice_get o.fields i))) field.2
+      (suit_get classes (shapes_of store) class.0.fields o.fields i field.0 inside field.1))
 
   -- a store with one field replaced fits
   pub with_field_fine : (store : Store) (r : Datum) (c i : ℕ) (k : Kind) (v : Datum)
-      → IsFitStore code store → Suits classes store.objects (One (ClassElem c)) r
-      → HasField code c i (λ j. j ≡ k) → Suits classes store.objects k v
+      → IsFitStore code store → Suits classes (shapes_of store) (One (ClassElem c)) r
+      → HasField code c i (λ j. j ≡ k) → Suits classes (shapes_of store) k v
       → Fine (Grown code store) (with_field store r i v)
   unfolding with_field
   with_field_fine store r c i k v fit suits has is_v =
       fine_then (IsInside classes store.objects r c) (Grown code store)
-      (referred store.objects r) _ (referred_fine classes store.objects r c suits) (λ o is.
+      (referred store.objects r) _ (referred_fine classes store.units store.objects r c suits) (λ o is.
       let class = found_is (slice_get classes o.class) _ (field_below is.below i k has) in
       let field = found_is (slice_get class.0.fields i) _ class.2 in
       let inside = same_found (slice_get classes o.class) (λ class.
-      Suit classes store.objects class.fields o.fields) class.0 class.1
+      Suit classes (shapes_of store) class.fields o.fields) class.0 class.1
       (fit.objects.each is.n _ is.at) in
-      let suits_v : Suits classes store.objects field.0 v =
-      subst (λ x. Suits classes store.objects x v) (sym field.2) is_v in
-      fine_then (Suits classes store.objects field.0) (Grown code store)
+      let suits_v : Suits classes (shapes_of store) field.0 v =
+      subst (λ x. Suits classes (shapes_of store) x v) (sym field.2) is_v in
+      fine_then (Suits classes (shapes_of store) field.0) (Grown code store)
       (found (slice_get o.fields i)) _
-      (suit_get classes store.objects class.0.fields o.fields i field.0 inside field.1) (λ old was.
+      (suit_get classes (shapes_of store) class.0.fields o.fields i field.0 inside field.1) (λ old was.
       let new : Object = Instance o.class (slice_set o.fields i v) in
-      let again : IsFitObject classes store.objects new =
+      let again : IsFitObject classes (shapes_of store) new =
       where_found (slice_get classes o.class) (λ class.
-      Suit classes store.objects class.fields (slice_set o.fields i v)) class.0 class.1
-      (suit_set classes store.objects class.0.fields o.fields i field.0 v inside field.1 suits_v) in
+      Suit classes (shapes_of store) class.fields (slice_set o.fields i v)) class.0 class.1
+      (suit_set classes (shapes_of store) class.0.fields o.fields i field.0 v inside field.1 suits_v) in
       subst (λ x. Grown code store (with_object store x new)) (sym is.is)
-      (set_grown code store is.n (Instance o.class o.fields) new fit is.at refl again tt)))
+      (set_grown code store is.n (Instance o.class o.fields) new fit is.at refl again)))
 
   -- new objects -----------------------------------------------------------------------------------
 
@@ -168,15 +173,15 @@ module _ (code : CodeParts) (verified : IsVerified code) where
       made_fine class at =
           let new : Object = Instance c (map first_value class.fields) in
           let fields =
-          first_all classes store.objects class.fields (verified.classes c class at).fields in
-          let fits : IsFitObject classes store.objects new =
+          first_all classes (shapes_of store) class.fields (verified.classes c class at).fields in
+          let fits : IsFitObject classes (shapes_of store) new =
           where_found (slice_get classes c) (λ class1.
-          Suit classes store.objects class1.fields (map first_value class.fields)) class at
+          Suit classes (shapes_of store) class1.fields (map first_value class.fields)) class at
           fields in
           fine_map (IsAdded code store (OfClass c)) (Makes code store (One (ClassElem c)))
           (added new store)
-          (added_fine code store new fit fits tt) (λ made h. (
-            refers_more classes made.store.objects (λ y. y ≡ OfClass c) (IsOfClass classes c)
+          (added_fine code store new (OfClass c) fit fits refl) (λ made h. (
+            refers_more classes (shapes_of made.store) (λ y. y ≡ OfClass c) (IsOfClass classes c)
                 (λ y e. subst (IsOfClass classes c) (sym e) itself) made.reference h.0,
             h.1,
           ))
@@ -192,7 +197,7 @@ module _ (code : CodeParts) (verified : IsVerified code) where
 
   -- the function that was found for an object: it takes the object, and besides it what that of
   -- the slot takes
-  pub record IsMethod (objects : List Object) (r : Datum) (old : Fun) (result : Kind)
+  pub record IsMethod (shapes : Shapes) (r : Datum) (old : Fun) (result : Kind)
       (f : ℕ) : Type 0 where
     pub fn : Fun
     pub at : slice_get code.funs f ≡ Some fn
@@ -200,7 +205,7 @@ module _ (code : CodeParts) (verified : IsVerified code) where
     pub this : Kind
     pub others : List Kind
     pub params : params_of fn ≡ this ∷ others
-    pub takes : Suits classes objects this r
+    pub takes : Suits classes shapes this r
     pub same : others ≡ drop 1 (params_of old)
 
   -- what stands in a slot of a class
@@ -248,11 +253,14 @@ module _ (code : CodeParts) (verified : IsVerified code) where
         holds = result.2;
       }
 
-  module _ (objects : List Object) (r : Datum) (c slot : ℕ) (P : Fun → Kind → Type 0)
-      (has : SlotIs c slot P) where
+  module _ (units : Units) (objects : List Object) (r : Datum) (c slot : ℕ)
+      (P : Fun → Kind → Type 0) (has : SlotIs c slot P) where
+    abbrev shapes : Shapes
+    shapes = shape_at units objects
+
     -- for an instance of the class or of one below it
     method_of_inside : (o : Inside) → IsInside classes objects r c o
-        → Fine (IsMethod objects r has.old has.result)
+        → Fine (IsMethod shapes r has.old has.result)
         (and_then (found (slice_get classes o.class))
         (λ class. found (slice_get class.virtuals slot)))
     method_of_inside o is =
@@ -268,28 +276,28 @@ module _ (code : CodeParts) (verified : IsVerified code) where
         let as_old = same_found (slice_get code.funs has.g) _ has.old has.at_fun fn.2 in
         let virtual = same_found (slice_get code.funs f.0) _ fn.0 fn.1
         ((verified.classes o.class own.0 own.1).virtuals slot f.0 f.1) in
-        let shaped : shape_at objects is.n ≡ Some (OfClass o.class) =
-        ap (option_map shape) is.at in
-        let method : IsMethod objects r has.old has.result f.0 = record {
+        let shaped : shapes is.n ≡ Some (OfClass o.class) =
+        ap (option_and_then (shape units)) is.at in
+        let method : IsMethod shapes r has.old has.result f.0 = record {
           fn = fn.0;
           at = fn.1;
           result_is = as_old.1 ∙ has.at_result;
           this = One (ClassElem virtual.0);
           others = virtual.1;
           params = virtual.2;
-          takes = subst (λ x. Suits classes objects (One (ClassElem virtual.0)) x) (sym is.is)
-              (where_found (shape_at objects is.n) (IsOfClass classes virtual.0) (OfClass o.class)
+          takes = subst (λ x. Suits classes shapes (One (ClassElem virtual.0)) x) (sym is.is)
+              (where_found (shapes is.n) (IsOfClass classes virtual.0) (OfClass o.class)
               shaped virtual.3);
           same = ap (drop 1) (sym virtual.2) ∙ as_old.0;
         } in
-        subst (λ x. Fine (IsMethod objects r has.old has.result)
+        subst (λ x. Fine (IsMethod shapes r has.old has.result)
         (and_then (found x) (λ class. found (slice_get class.virtuals slot)))) (sym own.1)
-        (subst (λ x. Fine (IsMethod objects r has.old has.result) (found x)) (sym f.1) method)
+        (subst (λ x. Fine (IsMethod shapes r has.old has.result) (found x)) (sym f.1) method)
 
     -- for whatever suits the class
-    pub method_fine : Suits classes objects (One (ClassElem c)) r
-        → Fine (IsMethod objects r has.old has.result) (method_of classes objects r slot)
+    pub method_fine : Suits classes shapes (One (ClassElem c)) r
+        → Fine (IsMethod shapes r has.old has.result) (method_of classes objects r slot)
     unfolding method_of
     method_fine suits =
-        fine_then (IsInside classes objects r c) (IsMethod objects r has.old has.result)
-        (referred objects r) _ (referred_fine classes objects r c suits) method_of_inside
+        fine_then (IsInside classes objects r c) (IsMethod shapes r has.old has.result)
+        (referred objects r) _ (referred_fine classes units objects r c suits) method_of_inside

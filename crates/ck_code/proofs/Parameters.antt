@@ -24,7 +24,7 @@ use Rattle.ugen_sample.specs.Table.{parameter_row}
 use Rattle.ugen_sample.proofs.Among.{either}
 use Rattle.ugen_sample.proofs.Origins.{origin_set}
 use Rattle.ugen_sample.proofs.Tables.{unit_reads, unit_sets}
-use Rattle.ck_store.specs.Store.{Object}
+use Rattle.ck_store.specs.Store.{Shapes}
 use Rattle.ck_store.specs.Steps.{found}
 use Rattle.ck_typed.specs.declared.class.Class.{Class}
 use Rattle.ck_typed.specs.Signatures.{Parameter, parameter_by, parameter}
@@ -115,15 +115,15 @@ module _ (q : Param) (unit : UnitState)
         (pan_sets q v unit (subst HasRow pan some))
   ]
 
-module _ (classes : List Class) (objects : List Object) where
+module _ (classes : List Class) (shapes : Shapes) where
   abbrev Is : Elem → Datum → Type 0
-  Is e v = IsOf classes objects e v
+  Is e v = IsOf classes shapes e v
 
   -- a unit generator has a parameter: it has a value of its type, and where it isn't read only it
   -- can be set to any, and stays what it is
   pub record Has (q : Param) (unit : UnitState) (w : Parameter) : Type 0 where
-    pub value : Fine (IsOf classes objects w.elem) (found (unit_parameter no_waves q unit))
-    pub set : (v : Datum) → w.is_read_only ≡ false → IsOf classes objects w.elem v
+    pub value : Fine (IsOf classes shapes w.elem) (found (unit_parameter no_waves q unit))
+    pub set : (v : Datum) → w.is_read_only ≡ false → IsOf classes shapes w.elem v
         → Fine (Stays unit) (found (with_unit_parameter no_waves q v unit))
 
   -- a value of the type of a parameter is one of the type

@@ -5,10 +5,8 @@ use Rattle.std.proofs.lemmas.List.Elements.{All-nil}
 use Rattle.std.proofs.lemmas.Option.{slice_get_within}
 use Rattle.ck_base.specs.declared.limits.TheConstants.{FRESH_TURNS, MAX_FILES}
 use Rattle.ck_values.specs.declared.trap.Place.{Place}
-use Rattle.ugen_names.specs.declared.table.UgenKind.TheVariants.{Dac, Blackhole}
 use Rattle.ck_values.specs.Datum.{Datum, first_locals}
-use Rattle.ugen_sample.specs.UnitState.{first_units}
-use Rattle.ck_store.specs.Store.{Object, UnitGenerator, Store, State, Request, At, On, End, Try, Gives, Fails, Misfit, first_objects, first_store}
+use Rattle.ck_store.specs.Store.{Object, UnitGenerator, Store, State, Request, At, On, End, Try, Gives, Fails, Misfit, first_objects, first_store, Shapes, shapes_of}
 use Rattle.ck_store.specs.Steps.{fresh, pick, spent_from, turn_spent, resumed, where_it_goes_on}
 use Rattle.ck_typed.specs.declared.class.Class.{Class}
 use Rattle.ck_code.specs.declared.code.Fun.{Fun}
@@ -18,38 +16,28 @@ use Rattle.ck_code.specs.Verified.{AreAt, params_of, IsVerified}
 use Rattle.ck_code.specs.Fitting.{Suit, IsFitObject, IsFitStore, AreFit, IsFitState, IsFitHalt, ComesAfter, WhereItGoesOn, FollowOneAnother}
 use Rattle.ck_code.proofs.Standing.{where_found, kept_same}
 use Rattle.ck_code.proofs.Suiting.{Fine, first_all, first_locals_suit}
-use Rattle.ck_code.proofs.Placed.{IsPlaced}
 use Rattle.ck_code.proofs.Tables.{get_within}
 use Rattle.ck_code.proofs.Frames.{spent_fine, frames_kept, where_goes}
 use Rattle.ck_code.proofs.Fit.{exec_fits}
 use Rattle.ck_code.proofs.Ends.{slice_ends}
 
-first_fit : (classes : List Class) (objects : List Object) (n : ℕ) (o : Object)
-    → slice_get first_objects n ≡ Some o → IsFitObject classes objects o
-first_fit classes objects zero (UnitGenerator kind place) e = tt
-first_fit classes objects (suc zero) (UnitGenerator kind place) e = tt
-first_fit classes objects (suc (suc n)) o e = absurd (cc)
-first_fit classes objects n o e = absurd (cc)
-
-first_placed : (n : ℕ) (o : Object) → slice_get first_objects n ≡ Some o
-    → IsPlaced first_units o
-first_placed zero o e =
-    let is : o ≡ UnitGenerator Dac 0 = cc in subst (IsPlaced first_units) (sym is) refl
-first_placed (suc zero) o e =
-    let is : o ≡ UnitGenerator Blackhole 1 = cc in subst (IsPlaced first_units) (sym is) refl
-first_placed (suc (suc n)) o e = absurd (cc)
+first_fit : (classes : List Class) (shapes : Shapes) (n : ℕ) (o : Object)
+    → slice_get first_objects n ≡ Some o → IsFitObject classes shapes o
+first_fit classes shapes zero (UnitGenerator place) e = tt
+first_fit classes shapes (suc zero) (UnitGenerator place) e = tt
+first_fit classes shapes (suc (suc n)) o e = absurd (cc)
+first_fit classes shapes n o e = absurd (cc)
 
 -- a run begins with a store that fits
 pub first_store_fits : (code : CodeParts) (files : ℕ) → IsVerified code → files ≤ MAX_FILES
     → IsFitStore code (first_store files code.statics)
 first_store_fits code files verified few = record {
-  objects = record { each = first_fit code.classes (first_store files code.statics).objects };
+  objects = record { each = first_fit code.classes (shapes_of (first_store files code.statics)) };
   statics =
-      first_all code.classes (first_store files code.statics).objects code.statics verified.statics;
+      first_all code.classes (shapes_of (first_store files code.statics)) code.statics verified.statics;
   graph = record {
     output = refl;
     hole = refl;
-    placed = λ n place kind e. first_placed n (UnitGenerator kind place) e;
     within = All-nil _;
   };
   begun = omega arith;
@@ -60,11 +48,11 @@ first_store_fits code files verified few = record {
 
 -- a shred begins with frames that fit
 pub first_frames_fit : (code : CodeParts) (verified : IsVerified code) (main : ℕ) (fn : Fun)
-    (objects : List Object) (arguments : List Datum) → slice_get code.funs main ≡ Some fn
-    → Suit code.classes objects (params_of fn) arguments
-    → AreFit code verified.typing main objects (frame main 0 (first_locals fn.locals arguments) []
+    (shapes : Shapes) (arguments : List Datum) → slice_get code.funs main ≡ Some fn
+    → Suit code.classes shapes (params_of fn) arguments
+    → AreFit code verified.typing main shapes (frame main 0 (first_locals fn.locals arguments) []
     ∷ [])
-first_frames_fit code verified main fn objects arguments at suit =
+first_frames_fit code verified main fn shapes arguments at suit =
     let within : main < length verified.typing.operands =
     omega (arith, slice_get_within code.funs main fn at, verified.same_places) in
     let places = get_within verified.typing.operands main within in
@@ -75,8 +63,8 @@ first_frames_fit code verified main fn objects arguments at suit =
             AreAt places 0 []) places.0 places.1 fun.first;
         held = tt;
         locals = where_found (slice_get code.funs main) (λ callee.
-            Suit code.classes objects callee.locals (first_locals fn.locals arguments)) fn at
-            (first_locals_suit code.classes objects fn.params fn.locals arguments fun.params
+            Suit code.classes shapes callee.locals (first_locals fn.locals arguments)) fn at
+            (first_locals_suit code.classes shapes fn.params fn.locals arguments fun.params
             fun.locals suit);
       },
       refl,
@@ -120,17 +108,17 @@ module _ (code : CodeParts) (verified : IsVerified code) (main shred : ℕ) wher
         time = refl;
         turns = omega arith;
         acts = λ all. all;
-        kept = kept_same s.store.objects;
+        kept = kept_same (shapes_of s.store);
       }
 
   -- a slice that spends its turn first
   turn_then_fits : (k : ℕ) (place : Place) (frames : List Frame) (s : State) (t : Try State)
-      → AreFit code verified.typing main s.store.objects frames → IsFitState code s s
+      → AreFit code verified.typing main (shapes_of s.store) frames → IsFitState code s s
       → Fine (λ s1. IsFitState code s s1 × (s1.store ≡ s.store)) t
       → IsFitHalt code verified.typing main s (with_turn t place s (exec code shred k frames))
   turn_then_fits k place frames s (Gives s1) fits state fine =
       exec_fits code verified main s shred k frames s1
-      (subst (λ store. AreFit code verified.typing main store.objects frames)
+      (subst (λ store. AreFit code verified.typing main (shapes_of store) frames)
       (sym fine.1) fits) fine.0
   turn_then_fits k place frames s (Fails trap) fits state fine = state
   turn_then_fits k place frames s Misfit fits state fine = fine
@@ -138,7 +126,7 @@ module _ (code : CodeParts) (verified : IsVerified code) (main shred : ℕ) wher
   -- a slice on a store beside whose objects the frames fit
   pub slice_fits : (k : ℕ) (place : Place) (last : ℤ) (turns : ℕ) (frames : List Frame)
       (store : Store)
-      → AreFit code verified.typing main store.objects frames → IsFitStore code store
+      → AreFit code verified.typing main (shapes_of store) frames → IsFitStore code store
       → IsFitHalt code verified.typing main (resumed last turns store)
       (slice_on code shred k place last turns frames store)
   slice_fits k place last turns frames store fits fit =
@@ -150,19 +138,19 @@ module _ (code : CodeParts) (verified : IsVerified code) (main shred : ℕ) wher
   -- a slice on a store that comes after the one with which the frames fit
   pub slice_on_fits : (k : ℕ) (place : Place) (before : Store) (turns : ℕ) (frames : List Frame)
       (store : Store)
-      → AreFit code verified.typing main before.objects frames → ComesAfter code before store
+      → AreFit code verified.typing main (shapes_of before) frames → ComesAfter code before store
       → IsFitHalt code verified.typing main (resumed before.now turns store)
       (slice_on code shred k place before.now turns frames store)
   slice_on_fits k place before turns frames store fits comes =
       let s = resumed before.now turns store in
       slice_fits k place before.now turns frames store
-      (frames_kept code verified.typing main before.objects store.objects comes.kept frames fits)
+      (frames_kept code verified.typing main (shapes_of before) (shapes_of store) comes.kept frames fits)
       comes.fits
 
   -- frames that wait fit with their store, and a slice is not stuck
   abbrev pub KeepsFrames : Halt → Type 0
   KeepsFrames (Waits q place frames s) =
-      WhereItGoesOn q (AreFit code verified.typing main s.store.objects frames)
+      WhereItGoesOn q (AreFit code verified.typing main (shapes_of s.store) frames)
   KeepsFrames (Ended v s) = Unit {0}
   KeepsFrames (Broke trap place s) = Unit {0}
   KeepsFrames Unfinished = Unit {0}
@@ -194,7 +182,7 @@ module _ (code : CodeParts) (verified : IsVerified code) (main shred : ℕ) wher
 
   -- a shred is not stuck, on stores that follow one another
   pub code_run_fits : (k : ℕ) (frames : List Frame) (s : State) (stores : List Store)
-      → AreFit code verified.typing main s.store.objects frames → IsFitStore code s.store
+      → AreFit code verified.typing main (shapes_of s.store) frames → IsFitStore code s.store
       → FollowOneAnother code shred k (exec code shred k frames s) stores
       → code_run code shred k frames s stores ≡ Stuck → ⊥
   code_run_fits k frames s stores fits fit follow =
@@ -249,7 +237,7 @@ module _ (code : CodeParts) (verified : IsVerified code) (main shred : ℕ) wher
 
   -- a slice that spends its turn first ends
   turn_then_ends : (place : Place) (frames : List Frame) (turns : ℕ) (s : State)
-      → AreFit code verified.typing main s.store.objects frames → turns ≤ FRESH_TURNS
+      → AreFit code verified.typing main (shapes_of s.store) frames → turns ≤ FRESH_TURNS
       → with_turn (spent_from turns s) place s (exec code shred (enough code) frames) ≡ Unfinished
       → ⊥
   turn_then_ends place frames zero s fits le = λ e. cc
@@ -261,7 +249,7 @@ module _ (code : CodeParts) (verified : IsVerified code) (main shred : ℕ) wher
 
   -- a slice on a store beside whose objects the frames fit ends
   pub slice_is_over : (place : Place) (last : ℤ) (turns : ℕ) (frames : List Frame) (store : Store)
-      → AreFit code verified.typing main store.objects frames → turns ≤ FRESH_TURNS
+      → AreFit code verified.typing main (shapes_of store) frames → turns ≤ FRESH_TURNS
       → slice_on code shred (enough code) place last turns frames store ≡ Unfinished → ⊥
   slice_is_over place last turns frames store fits le =
       let s = resumed last turns store in
@@ -269,18 +257,18 @@ module _ (code : CodeParts) (verified : IsVerified code) (main shred : ℕ) wher
 
   -- so does one on a store that comes after
   slice_on_ends : (place : Place) (before : Store) (turns : ℕ) (frames : List Frame) (store : Store)
-      → AreFit code verified.typing main before.objects frames → ComesAfter code before store
+      → AreFit code verified.typing main (shapes_of before) frames → ComesAfter code before store
       → turns ≤ FRESH_TURNS
       → slice_on code shred (enough code) place before.now turns frames store ≡ Unfinished → ⊥
   slice_on_ends place before turns frames store fits comes le =
       let s = resumed before.now turns store in
       slice_is_over place before.now turns frames store
-      (frames_kept code verified.typing main before.objects store.objects comes.kept frames fits) le
+      (frames_kept code verified.typing main (shapes_of before) (shapes_of store) comes.kept frames fits) le
 
   -- no more turns are left after a slice than this
   abbrev HasLeft : ℕ → Halt → Type 0
   HasLeft most (Waits q place frames s) =
-      WhereItGoesOn q (AreFit code verified.typing main s.store.objects frames) × (s.turns ≤ most)
+      WhereItGoesOn q (AreFit code verified.typing main (shapes_of s.store) frames) × (s.turns ≤ most)
   HasLeft most (Ended v s) = Unit {0}
   HasLeft most (Broke trap place s) = Unit {0}
   HasLeft most Unfinished = Unit {0}
@@ -317,7 +305,7 @@ module _ (code : CodeParts) (verified : IsVerified code) (main shred : ℕ) wher
 
   -- a shred's slices end
   pub code_run_ends : (frames : List Frame) (s : State) (stores : List Store)
-      → AreFit code verified.typing main s.store.objects frames → s.turns < FRESH_TURNS
+      → AreFit code verified.typing main (shapes_of s.store) frames → s.turns < FRESH_TURNS
       → IsFitStore code s.store → FollowOneAnother code shred (enough code)
       (exec code shred (enough code) frames s) stores
       → code_run code shred (enough code) frames s stores ≡ Unfinished → ⊥

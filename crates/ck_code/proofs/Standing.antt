@@ -7,7 +7,7 @@ use Rattle.ck_values.specs.declared.kind.Kind.TheVariants.{Void, Null, One, Row,
 use Rattle.ugen_names.specs.declared.table.UgenKind.{UgenKind}
 use Rattle.ugen_names.specs.declared.table.UgenKind.TheVariants.{UGen}
 use Rattle.ck_values.specs.Datum.{Datum, ARef}
-use Rattle.ck_store.specs.Store.{Object, Instance, Items, UnitGenerator, Shape, OfClass, OfUnit, shape_at, Keeps, Act, Printed, Sporked, WokeOne, WokeAll, Removed}
+use Rattle.ck_store.specs.Store.{Object, Instance, Items, UnitGenerator, Shape, OfClass, OfUnit, Keeps, Act, Printed, Sporked, WokeOne, WokeAll, Removed, Shapes}
 use Rattle.ck_typed.specs.declared.class.Class.{Class}
 use Rattle.ck_typed.specs.Standing.{IsBelow, itself, step, ElemStands, IsReference, Stands}
 use Rattle.ck_typed.specs.WellFormed.{FoundWhere}
@@ -37,10 +37,10 @@ pub found_more : {A : Type 0} (o : Option A) (P Q : A → Type 0) → ((a : A) �
 found_more None P Q more h = h
 found_more (Some a) P Q more h = more a h
 
-pub kept_same : (objects : List Object) → Keeps objects objects
-kept_same objects = record { each = λ n x e. e }
+pub kept_same : (shapes : Shapes) → Keeps shapes shapes
+kept_same shapes = record { each = λ n x e. e }
 
-pub kept_trans : (a b c : List Object) → Keeps a b → Keeps b c → Keeps a c
+pub kept_trans : (a b c : Shapes) → Keeps a b → Keeps b c → Keeps a c
 kept_trans a b c h g = record { each = λ n x e. g.each n x (h.each n x e) }
 
 module _ (classes : List Class) where
@@ -131,14 +131,14 @@ at_within [] p ks h = absurd cc
 at_within (at ∷ places) zero ks h = omega arith
 at_within (at ∷ places) (suc p) ks h = omega (arith, at_within places p ks h)
 
-module _ (classes : List Class) (objects : List Object) where
+module _ (classes : List Class) (shapes : Shapes) where
   pub refers_more : (P Q : Shape → Type 0) → ((x : Shape) → P x → Q x) → (v : Datum)
-      → Refers objects P v → Refers objects Q v
+      → Refers shapes P v → Refers shapes Q v
   refers_more P Q more (ARef zero) h = tt
-  refers_more P Q more (ARef (suc n)) h = found_more (shape_at objects n) P Q more h
+  refers_more P Q more (ARef (suc n)) h = found_more (shapes n) P Q more h
   refers_more P Q more _ h = absurd h
 
-  null_refers : (P : Shape → Type 0) (v : Datum) → IsNull v → Refers objects P v
+  null_refers : (P : Shape → Type 0) (v : Datum) → IsNull v → Refers shapes P v
   null_refers P (ARef zero) h = tt
   null_refers P (ARef (suc n)) h = absurd h
   null_refers P _ h = absurd h
@@ -155,15 +155,15 @@ module _ (classes : List Class) (objects : List Object) where
   ]
   unit_more a b is _ h = absurd h
 
-  elem_suits : (a b : Elem) (v : Datum) → ElemStands classes a b → IsOf classes objects a v
-      → IsOf classes objects b v
+  elem_suits : (a b : Elem) (v : Datum) → ElemStands classes a b → IsOf classes shapes a v
+      → IsOf classes shapes b v
   elem_suits (ClassElem c) (ClassElem d) v below h =
       refers_more (IsOfClass classes c) (IsOfClass classes d) (class_more c d below) v h
   elem_suits (UnitElem a) (UnitElem b) v is h =
       refers_more (IsOfUnit a) (IsOfUnit b) (unit_more a b is) v h
-  elem_suits a b v is h = subst (λ e. IsOf classes objects e v) is h
+  elem_suits a b v is h = subst (λ e. IsOf classes shapes e v) is h
 
-  null_suits : (k : Kind) (v : Datum) → IsReference k → IsNull v → Suits classes objects k v
+  null_suits : (k : Kind) (v : Datum) → IsReference k → IsNull v → Suits classes shapes k v
   null_suits Void v is h = absurd is
   null_suits Null v is h = h
   null_suits (One (ClassElem c)) v is h = null_refers (IsOfClass classes c) v h
@@ -173,14 +173,14 @@ module _ (classes : List Class) (objects : List Object) where
   null_suits (Grid e) v is h = null_refers _ v h
 
   -- a value suits whatever its kind may stand for
-  pub stands_suits : (j k : Kind) (v : Datum) → Stands classes j k → Suits classes objects j v
-      → Suits classes objects k v
+  pub stands_suits : (j k : Kind) (v : Datum) → Stands classes j k → Suits classes shapes j v
+      → Suits classes shapes k v
   stands_suits Null k v is h = null_suits k v is h
   stands_suits (One a) (One b) v is h = elem_suits a b v is h
-  stands_suits j k v is h = subst (λ x. Suits classes objects x v) is h
+  stands_suits j k v is h = subst (λ x. Suits classes shapes x v) is h
 
   pub all_stand_suit : (js ks : List Kind) (vs : List Datum) → AllStand classes js ks
-      → Suit classes objects js vs → Suit classes objects ks vs
+      → Suit classes shapes js vs → Suit classes shapes ks vs
   all_stand_suit [] [] vs is h = h
   all_stand_suit [] (k ∷ ks) vs is h = absurd is
   all_stand_suit (j ∷ js) [] vs is h = absurd is
@@ -189,12 +189,12 @@ module _ (classes : List Class) (objects : List Object) where
       (stands_suits j k v is.0 h.0, all_stand_suit js ks vs is.1 h.1)
 
 -- what suits goes on to suit as the store grows
-module _ (classes : List Class) (before after : List Object) (kept : Keeps before after) where
+module _ (classes : List Class) (before after : Shapes) (kept : Keeps before after) where
   refers_kept : (P : Shape → Type 0) (v : Datum) → Refers before P v → Refers after P v
   refers_kept P (ARef zero) h = tt
   refers_kept P (ARef (suc n)) h =
-      let f = found_is (shape_at before n) P h in
-      where_found (shape_at after n) P f.0 (kept.each n f.0 f.1) f.2
+      let f = found_is (before n) P h in
+      where_found (after n) P f.0 (kept.each n f.0 f.1) f.2
   refers_kept P _ h = absurd h
 
   is_of_kept : (e : Elem) (v : Datum) → IsOf classes before e v → IsOf classes after e v
@@ -226,14 +226,14 @@ module _ (classes : List Class) (before after : List Object) (kept : Keeps befor
       found_more (slice_get classes c) _ _ (λ class suit. suit_kept class.fields fields suit) h
   object_kept (Items e false items) h = all_suit_kept (One e) items h
   object_kept (Items e true items) h = all_suit_kept (Row e) items h
-  object_kept (UnitGenerator kind place) h = tt
+  object_kept (UnitGenerator place) h = tt
 
   pub event_kept : (event : ℕ) → IsEvent classes before event → IsEvent classes after event
   event_kept zero h = h
   event_kept (suc n) h = refers_kept (IsOfClass classes 1) (ARef (suc n)) h
 
 -- an act that fits goes on to fit as the store grows
-pub act_kept : (code : CodeParts) (before after : List Object) → Keeps before after → (act : Act)
+pub act_kept : (code : CodeParts) (before after : Shapes) → Keeps before after → (act : Act)
     → IsFitAct code before act → IsFitAct code after act
 act_kept code before after kept (Printed line) h = tt
 act_kept code before after kept (Sporked number f arguments) h =

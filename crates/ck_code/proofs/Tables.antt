@@ -1,20 +1,19 @@
 -- What stays as a store goes on: what is found in lists, and the objects, as one of them is
 -- replaced or one more is made.
-use Rattle.std.proofs.Common.{◌≡◌, ◌⊎◌, inl, inr, ℕ, zero, suc, ◌<◌, Bool, true, false, nat_lt, List, [], ◌∷◌, ◌++◌, length, Some, option_map, refl, sym, ap, ◌∙◌, subst, arith, slice_get, slice_set}
+use Rattle.std.proofs.Common.{◌≡◌, ◌⊎◌, inl, inr, ℕ, zero, suc, ◌<◌, Bool, true, false, nat_lt, List, [], ◌∷◌, ◌++◌, length, Some, refl, sym, ap, ◌∙◌, subst, arith, slice_get, slice_set, option_and_then}
 use Rattle.ck_values.specs.declared.kind.Kind.{Kind}
 use Rattle.ck_base.specs.declared.limits.TheConstants.{MAX_OBJECTS}
 use Rattle.ck_values.specs.declared.trap.Trap.TheVariants.{ObjectLimit}
-use Rattle.ugen_sample.specs.Connection.{Connection}
 use Rattle.ugen_sample.specs.UnitState.{Units}
-use Rattle.ck_store.specs.Store.{Object, Shape, shape, shape_at, Keeps, Store, Gives, Fails}
+use Rattle.ck_store.specs.Store.{Object, Shape, shape, shape_at, Keeps, Store, shapes_of, Gives, Fails}
 use Rattle.ck_store.specs.Steps.{pick}
 use Rattle.ck_store.specs.Objects.{Made, added}
 use Rattle.ck_typed.specs.declared.class.Class.{Class}
 use Rattle.ck_code.specs.declared.code.CodeParts.{CodeParts}
-use Rattle.ck_code.specs.Fitting.{Refers, Suits, IsFitObject, AreFitObjects, IsFitGraph, IsFitStore}
+use Rattle.ck_code.specs.Fitting.{Refers, Suits, IsFitObject, AreFitObjects, IsFitStore}
 use Rattle.ck_code.proofs.Standing.{where_found, kept_same, kept_trans, suit_kept, object_kept}
 use Rattle.ck_code.proofs.Suiting.{Fine}
-use Rattle.ck_code.proofs.Placed.{IsPlaced, graph_objects}
+use Rattle.ck_code.proofs.Placed.{graph_shapes}
 
 -- what is within is found
 pub get_within : {A : Type 0} (xs : List A) (i : ℕ) → i < length xs
@@ -43,119 +42,102 @@ set_either (z ∷ xs) y (suc n) zero x e = inr e
 set_either (z ∷ xs) y (suc n) (suc i) x e = set_either xs y n i x e
 
 -- one more object
-kept_more : (objects : List Object) (o : Object) → Keeps objects (objects ++ o ∷ [])
-kept_more objects o = record { each = λ n x e. go objects n x e }
+kept_more : (units : Units) (objects : List Object) (o : Object)
+    → Keeps (shape_at units objects) (shape_at units (objects ++ o ∷ []))
+kept_more units objects o = record { each = λ n x e. go objects n x e }
   where
-    go : (objects : List Object) (n : ℕ) (x : Shape) → shape_at objects n ≡ Some x
-        → shape_at (objects ++ o ∷ []) n ≡ Some x
+    go : (objects : List Object) (n : ℕ) (x : Shape) → shape_at units objects n ≡ Some x
+        → shape_at units (objects ++ o ∷ []) n ≡ Some x
     go [] n x e = absurd (cc)
     go (y ∷ objects) zero x e = e
     go (y ∷ objects) (suc n) x e = go objects n x e
 
 -- an object replaced by one of its shape
-shape_set : (objects : List Object) (k : ℕ) (old new : Object) (n : ℕ) (x : Shape)
-    → slice_get objects k ≡ Some old → shape old ≡ shape new → shape_at objects n ≡ Some x
-    → shape_at (slice_set objects k new) n ≡ Some x
-shape_set [] k old new n x at same e = absurd (cc)
-shape_set (y ∷ objects) zero old new zero x at same e =
-    let is : y ≡ old = cc in sym (ap (λ o. Some (shape o)) is ∙ ap Some same) ∙ e
-shape_set (y ∷ objects) zero old new (suc n) x at same e = e
-shape_set (y ∷ objects) (suc k) old new zero x at same e = e
-shape_set (y ∷ objects) (suc k) old new (suc n) x at same e =
-    shape_set objects k old new n x at same e
+shape_set : (units : Units) (objects : List Object) (k : ℕ) (old new : Object) (n : ℕ) (x : Shape)
+    → slice_get objects k ≡ Some old → shape units old ≡ shape units new
+    → shape_at units objects n ≡ Some x → shape_at units (slice_set objects k new) n ≡ Some x
+shape_set units [] k old new n x at same e = absurd (cc)
+shape_set units (y ∷ objects) zero old new zero x at same e =
+    let is : y ≡ old = cc in sym (ap (shape units) is ∙ same) ∙ e
+shape_set units (y ∷ objects) zero old new (suc n) x at same e = e
+shape_set units (y ∷ objects) (suc k) old new zero x at same e = e
+shape_set units (y ∷ objects) (suc k) old new (suc n) x at same e =
+    shape_set units objects k old new n x at same e
 
-kept_set : (objects : List Object) (k : ℕ) (old new : Object) → slice_get objects k ≡ Some old
-    → shape old ≡ shape new → Keeps objects (slice_set objects k new)
-kept_set objects k old new at same =
-    record { each = λ n x e. shape_set objects k old new n x at same e }
+kept_set : (units : Units) (objects : List Object) (k : ℕ) (old new : Object)
+    → slice_get objects k ≡ Some old → shape units old ≡ shape units new
+    → Keeps (shape_at units objects) (shape_at units (slice_set objects k new))
+kept_set units objects k old new at same =
+    record { each = λ n x e. shape_set units objects k old new n x at same e }
 
 -- the objects fit again
-fit_set : (classes : List Class) (objects : List Object) (k : ℕ) (old new : Object)
-    → slice_get objects k ≡ Some old → shape old ≡ shape new
-    → AreFitObjects classes objects objects → IsFitObject classes objects new
-    → AreFitObjects classes (slice_set objects k new) (slice_set objects k new)
-fit_set classes objects k old new at same fit fits = record {
+fit_set : (classes : List Class) (units : Units) (objects : List Object) (k : ℕ)
+    (old new : Object) → slice_get objects k ≡ Some old → shape units old ≡ shape units new
+    → AreFitObjects classes (shape_at units objects) objects
+    → IsFitObject classes (shape_at units objects) new
+    → AreFitObjects classes (shape_at units (slice_set objects k new)) (slice_set objects k new)
+fit_set classes units objects k old new at same fit fits = record {
   each = λ n o e.
-      let kept = kept_set objects k old new at same in
-      object_kept classes objects (slice_set objects k new) kept o
+      let kept = kept_set units objects k old new at same in
+      object_kept classes (shape_at units objects) (shape_at units (slice_set objects k new)) kept o
       (elim (set_either objects new k n o e) [
-        | inl is ↦ subst (IsFitObject classes objects) (sym is) fits
+        | inl is ↦ subst (IsFitObject classes (shape_at units objects)) (sym is) fits
         | inr was ↦ fit.each n o was
       ]);
 }
 
-fit_more : (classes : List Class) (objects : List Object) (new : Object)
-    → AreFitObjects classes objects objects → IsFitObject classes objects new
-    → AreFitObjects classes (objects ++ new ∷ []) (objects ++ new ∷ [])
-fit_more classes objects new fit fits = record {
+fit_more : (classes : List Class) (units : Units) (objects : List Object) (new : Object)
+    → AreFitObjects classes (shape_at units objects) objects
+    → IsFitObject classes (shape_at units objects) new
+    → AreFitObjects classes (shape_at units (objects ++ new ∷ [])) (objects ++ new ∷ [])
+fit_more classes units objects new fit fits = record {
   each = λ n o e.
-      object_kept classes objects (objects ++ new ∷ []) (kept_more objects new) o
+      object_kept classes (shape_at units objects) (shape_at units (objects ++ new ∷ []))
+      (kept_more units objects new) o
       (elim (get_either objects new n o e) [
-        | inl is ↦ subst (IsFitObject classes objects) (sym is) fits
+        | inl is ↦ subst (IsFitObject classes (shape_at units objects)) (sym is) fits
         | inr was ↦ fit.each n o was
       ]);
 }
-
--- the unit generators fit again
-graph_set : (objects : List Object) (units : Units) (connections : List Connection)
-    (k : ℕ) (old new : Object) → slice_get objects k ≡ Some old → shape old ≡ shape new
-    → IsPlaced units new → IsFitGraph objects units connections
-    → IsFitGraph (slice_set objects k new) units connections
-graph_set objects units connections k old new at same placed graph =
-    graph_objects objects (slice_set objects k new) units connections
-    (kept_set objects k old new at same) (λ n o e. elim (set_either objects new k n o e) [
-      | inl is ↦ inl (subst (IsPlaced units) (sym is) placed)
-      | inr was ↦ inr was
-    ]) graph
-
-graph_more : (objects : List Object) (units : Units) (connections : List Connection)
-    (new : Object) → IsPlaced units new → IsFitGraph objects units connections
-    → IsFitGraph (objects ++ new ∷ []) units connections
-graph_more objects units connections new placed graph =
-    graph_objects objects (objects ++ new ∷ []) units connections (kept_more objects new)
-    (λ n o e. elim (get_either objects new n o e) [
-      | inl is ↦ inl (subst (IsPlaced units) (sym is) placed)
-      | inr was ↦ inr was
-    ]) graph
 
 -- a store after another at the same time: it fits, and it has all the objects
 abbrev pub Grown : CodeParts → (before after : Store) → Type 0
 Grown code before after =
-    IsFitStore code after × (after.now ≡ before.now) × Keeps before.objects after.objects
+    IsFitStore code after × (after.now ≡ before.now) × Keeps (shapes_of before) (shapes_of after)
 
 -- what was made, in the store with it: a reference to an object of this shape
 abbrev pub IsAdded : CodeParts → Store → Shape → Made → Type 0
 IsAdded code store x made =
-    Refers made.store.objects (λ y. y ≡ x) made.reference × Grown code store made.store
+    Refers (shapes_of made.store) (λ y. y ≡ x) made.reference × Grown code store made.store
 
 -- what was made suits a kind
 abbrev pub Makes : CodeParts → Store → Kind → Made → Type 0
 Makes code store k made =
-    Suits code.classes made.store.objects k made.reference × Grown code store made.store
+    Suits code.classes (shapes_of made.store) k made.reference × Grown code store made.store
 
 module _ (code : CodeParts) where
   abbrev classes : List Class
   classes = code.classes
 
   pub grown_same : (store : Store) → IsFitStore code store → Grown code store store
-  grown_same store fit = (fit, refl, kept_same store.objects)
+  grown_same store fit = (fit, refl, kept_same (shapes_of store))
 
   pub grown_trans : (a b c : Store) → Grown code a b → Grown code b c → Grown code a c
-  grown_trans a b c h g = (g.0, g.1 ∙ h.1, kept_trans a.objects b.objects c.objects h.2 g.2)
+  grown_trans a b c h g = (g.0, g.1 ∙ h.1, kept_trans (shapes_of a) (shapes_of b) (shapes_of c) h.2 g.2)
 
   -- an object was replaced by one of its shape
   pub set_grown : (store : Store) (n : ℕ) (old new : Object) → IsFitStore code store
-      → slice_get store.objects n ≡ Some old → shape old ≡ shape new
-      → IsFitObject classes store.objects new → IsPlaced store.units new
+      → slice_get store.objects n ≡ Some old → shape store.units old ≡ shape store.units new
+      → IsFitObject classes (shapes_of store) new
       → Grown code store (record store { objects = slice_set store.objects n new })
-  set_grown store n old new fit at same fits placed =
-      let kept = kept_set store.objects n old new at same in (
+  set_grown store n old new fit at same fits =
+      let after = shape_at store.units (slice_set store.objects n new) in
+      let kept = kept_set store.units store.objects n old new at same in (
         record {
-          objects = fit_set classes store.objects n old new at same fit.objects fits;
-          statics = suit_kept classes store.objects (slice_set store.objects n new) kept
-              code.statics store.statics fit.statics;
-          graph = graph_set store.objects store.units store.connections n old new at same placed
-              fit.graph;
+          objects = fit_set classes store.units store.objects n old new at same fit.objects fits;
+          statics = suit_kept classes (shapes_of store) after kept code.statics store.statics
+              fit.statics;
+          graph = graph_shapes (shapes_of store) after store.units store.connections kept fit.graph;
           begun = fit.begun;
           within = fit.within;
           sporks = fit.sporks;
@@ -167,15 +149,16 @@ module _ (code : CodeParts) where
 
   -- an object was added
   more_grown : (store : Store) (new : Object) → IsFitStore code store
-      → IsFitObject classes store.objects new → IsPlaced store.units new
+      → IsFitObject classes (shapes_of store) new
       → Grown code store (record store { objects = store.objects ++ new ∷ [] })
-  more_grown store new fit fits placed =
-      let kept = kept_more store.objects new in (
+  more_grown store new fit fits =
+      let after = shape_at store.units (store.objects ++ new ∷ []) in
+      let kept = kept_more store.units store.objects new in (
         record {
-          objects = fit_more classes store.objects new fit.objects fits;
-          statics = suit_kept classes store.objects (store.objects ++ new ∷ []) kept
-              code.statics store.statics fit.statics;
-          graph = graph_more store.objects store.units store.connections new placed fit.graph;
+          objects = fit_more classes store.units store.objects new fit.objects fits;
+          statics = suit_kept classes (shapes_of store) after kept code.statics store.statics
+              fit.statics;
+          graph = graph_shapes (shapes_of store) after store.units store.connections kept fit.graph;
           begun = fit.begun;
           within = fit.within;
           sporks = fit.sporks;
@@ -190,14 +173,14 @@ module _ (code : CodeParts) where
   picked_fine true store x made h = h
   picked_fine false store x made h = tt
 
-  -- an object is added, or there are too many
-  pub added_fine : (store : Store) (o : Object) → IsFitStore code store
-      → IsFitObject classes store.objects o → IsPlaced store.units o
-      → Fine (IsAdded code store (shape o)) (added o store)
+  -- an object of a shape is added, or there are too many
+  pub added_fine : (store : Store) (o : Object) (x : Shape) → IsFitStore code store
+      → IsFitObject classes (shapes_of store) o → shape store.units o ≡ Some x
+      → Fine (IsAdded code store x) (added o store)
   unfolding added
-  added_fine store o fit fits placed =
-      picked_fine (nat_lt (length store.objects) MAX_OBJECTS) store (shape o) _ (
-        where_found (shape_at (store.objects ++ o ∷ []) (length store.objects)) (λ y.
-            y ≡ shape o) (shape o) (ap (option_map shape) (get_last store.objects o)) refl,
-        more_grown store o fit fits placed,
+  added_fine store o x fit fits is =
+      picked_fine (nat_lt (length store.objects) MAX_OBJECTS) store x _ (
+        where_found (shape_at store.units (store.objects ++ o ∷ []) (length store.objects)) (λ y.
+            y ≡ x) x (ap (option_and_then (shape store.units)) (get_last store.objects o) ∙ is) refl,
+        more_grown store o fit fits,
       )

@@ -15,7 +15,7 @@ use Rattle.ck_values.specs.declared.operator.Op2.{Op2}
 use Rattle.ck_values.specs.declared.operator.Op2.TheVariants.{AddIntInt, SubIntInt, MulIntInt, DivIntInt, ModIntInt, AddFloatFloat, SubFloatFloat, MulFloatFloat, DivFloatFloat, ModFloatFloat, AndIntInt, OrIntInt, XorIntInt, ShlIntInt, ShrIntInt, AddDurDur, SubDurDur, AddTimeDur, AddDurTime, SubTimeDur, SubTimeTime, MulIntDur, MulFloatDur, MulDurInt, MulDurFloat, DivDurInt, DivDurFloat, DivDurDur, DivTimeDur, ModDurDur, ModTimeDur, AddTextText, AddTextInt, AddTextFloat, AddIntText, AddFloatText, EqIntInt, EqFloatFloat, EqDurDur, EqTimeTime, EqTextText, EqRefRef, EqShredShred, NeIntInt, NeFloatFloat, NeDurDur, NeTimeTime, NeTextText, NeRefRef, NeShredShred, LtIntInt, LtFloatFloat, LtDurDur, LtTimeTime, GtIntInt, GtFloatFloat, GtDurDur, GtTimeTime, LeIntInt, LeFloatFloat, LeDurDur, LeTimeTime, GeIntInt, GeFloatFloat, GeDurDur, GeTimeTime}
 use Rattle.ck_values.specs.declared.trap.Trap.TheVariants.{TimeBeforeNow, StringLimit}
 use Rattle.ck_values.specs.Datum.{Datum, AnInt, AFloat, ADur, ATime, AText, AShred, ARef}
-use Rattle.ck_store.specs.Store.{Object, Shape, Store, At, Try, Gives, Fails, Misfit, IsFitting}
+use Rattle.ck_store.specs.Store.{Shape, Store, At, Try, Gives, Fails, Misfit, IsFitting, Shapes}
 use Rattle.ck_store.specs.Steps.{and_then, found, pick, int_units, float_units, is_zero, wait_dur, wait_time}
 use Rattle.ck_store.specs.Strings.{printed}
 use Rattle.ck_store.specs.Operators.{int_in, float_in, dur_in, time_in, string_in, shred_in, object_in, with_both, of_both, unless_zero, of_divisor, joined_where, tested, of_one, unary, binary}
@@ -93,12 +93,12 @@ made Floats = AFloat
 made Durs = ADur
 made Times = ATime
 
-module _ (classes : List Class) (objects : List Object) where
+module _ (classes : List Class) (shapes : Shapes) where
   -- operands --------------------------------------------------------------------------------------
 
   -- the value is of this type
   abbrev Is : Elem → Datum → Type 0
-  Is e v = IsOf classes objects e v
+  Is e v = IsOf classes shapes e v
 
   -- a number is read
   reads : (n : Number) (v : Datum) → Is (elem_of n) v → IsFitting (read n v)
@@ -121,7 +121,7 @@ module _ (classes : List Class) (objects : List Object) where
   shred_reads _ is = absurd is
 
   -- a reference is read
-  refers_reads : (P : Shape → Type 0) (v : Datum) → Refers objects P v → IsFitting (object_in v)
+  refers_reads : (P : Shape → Type 0) (v : Datum) → Refers shapes P v → IsFitting (object_in v)
   refers_reads P (ARef n) is = tt
   refers_reads P _ is = absurd is
 
@@ -130,7 +130,7 @@ module _ (classes : List Class) (objects : List Object) where
   null_reads _ is = absurd is
 
   -- what suits a kind of references is one
-  reference_reads : (k : Kind) (v : Datum) → IsReference k → Suits classes objects k v
+  reference_reads : (k : Kind) (v : Datum) → IsReference k → Suits classes shapes k v
       → IsFitting (object_in v)
   reference_reads Void v is h = absurd is
   reference_reads Null v is h = null_reads v h
@@ -307,7 +307,7 @@ module _ (classes : List Class) (objects : List Object) where
   -- an operator gives a result of this type for what suits these kinds
   abbrev pub Combines : Op2 → (left right : Kind) → Elem → Type 0
   Combines o j k e =
-      (x y : Datum) → Suits classes objects j x → Suits classes objects k y
+      (x y : Datum) → Suits classes shapes j x → Suits classes shapes k y
       → Fine (Is e) (binary o x y)
 
   -- the result for the two topmost operands
@@ -328,8 +328,8 @@ module _ (classes : List Class) (objects : List Object) where
         s.0.result,
         top1.1,
         λ x y is_x is_y.
-            signed_fine o s.0 s.1 x y (stands_suits classes objects j (One s.0.left) x top1.0 is_x)
-            (stands_suits classes objects k (One s.0.right) y top.0 is_y),
+            signed_fine o s.0 s.1 x y (stands_suits classes shapes j (One s.0.left) x top1.0 is_x)
+            (stands_suits classes shapes k (One s.0.right) y top.0 is_y),
       )) top.1) s.2
 
   -- references are compared
@@ -380,8 +380,8 @@ module _ (classes : List Class) (objects : List Object) where
         top.1,
         s.2.1,
         λ x y is_x is_y.
-            signed_fine o s.0 s.1 x y (stands_suits classes objects k (One s.0.left) x s.2.0 is_x)
-            (stands_suits classes objects j (One s.0.right) y top.0 is_y),
+            signed_fine o s.0 s.1 x y (stands_suits classes shapes k (One s.0.left) x s.2.0 is_x)
+            (stands_suits classes shapes j (One s.0.right) y top.0 is_y),
       )) s.2.2
 
   -- literals and units ----------------------------------------------------------------------------
@@ -415,13 +415,13 @@ module _ (classes : List Class) (objects : List Object) where
 
   -- a wait is for a time that isn't past
   until_fine : (b : Bool) (time now : ℤ) → int_lt time now ≡ b
-      → Fine (IsFitRequest classes objects now) (pick b (Fails TimeBeforeNow) (Gives (At time)))
+      → Fine (IsFitRequest classes shapes now) (pick b (Fails TimeBeforeNow) (Gives (At time)))
   until_fine true time now e = tt
   until_fine false time now e = not_below time now e
 
   -- a dur's wait is fine
   pub wait_dur_fine : (v : Datum) (store : Store) → Is Dur v
-      → Fine (IsFitRequest classes objects store.now) (wait_dur v store)
+      → Fine (IsFitRequest classes shapes store.now) (wait_dur v store)
   unfolding wait_dur
   wait_dur_fine (ADur d) store is =
       until_fine (int_lt (nearest_in_range (store.now +ℤ d)) store.now)
@@ -430,13 +430,13 @@ module _ (classes : List Class) (objects : List Object) where
 
   -- and so is a time's
   pub wait_time_fine : (v : Datum) (store : Store) → Is Time v
-      → Fine (IsFitRequest classes objects store.now) (wait_time v store)
+      → Fine (IsFitRequest classes shapes store.now) (wait_time v store)
   unfolding wait_time
   wait_time_fine (ATime t) store is = until_fine (int_lt t store.now) t store.now refl
   wait_time_fine _ store is = absurd is
 
   -- an event is there, or null
-  pub event_fine : (v : Datum) → Is (ClassElem 1) v → Fine (IsEvent classes objects) (event_of v)
+  pub event_fine : (v : Datum) → Is (ClassElem 1) v → Fine (IsEvent classes shapes) (event_of v)
   unfolding event_of
   event_fine (ARef zero) is = tt
   event_fine (ARef (suc n)) is = is
@@ -444,10 +444,10 @@ module _ (classes : List Class) (objects : List Object) where
 
   -- a wait for an event
   pub wait_event_fine : (v : Datum) (now : ℤ) → Is (ClassElem 1) v
-      → Fine (IsFitRequest classes objects now) (wait_event v)
+      → Fine (IsFitRequest classes shapes now) (wait_event v)
   unfolding wait_event
   wait_event_fine v now is =
-      fine_then (IsEvent classes objects) (IsFitRequest classes objects now) (event_of v) _
+      fine_then (IsEvent classes shapes) (IsFitRequest classes shapes now) (event_of v) _
       (event_fine v is) (λ n there. there)
 
   -- built-in calls --------------------------------------------------------------------------------

@@ -4,7 +4,7 @@ ghost use Rattle.std.specs.Prelude.{◌≡◌, ◌≢◌, ◌<◌, ◌≤◌, �
 ghost use Rattle.ck_base.specs.declared.limits.TheConstants.{FRESH_TURNS, MAX_FILES};
 ghost use Rattle.ck_values.specs.declared.trap.Place.{Place};
 ghost use Rattle.ck_values.specs.Datum.{Datum, first_locals};
-ghost use Rattle.ck_store.specs.Store.{Object, Keeps, Store, State, Request, first_store};
+ghost use Rattle.ck_store.specs.Store.{Shapes, Keeps, Store, shapes_of, State, Request, first_store};
 ghost use Rattle.ck_store.specs.Steps.{resumed};
 ghost use Rattle.ck_code.specs.declared.code.Fun.{Fun};
 ghost use Rattle.ck_code.specs.declared.code.CodeParts.{CodeParts};
@@ -16,7 +16,7 @@ ghost use Rattle.ck_code.specs.Fitting.{Suit, AreFit, IsFitStore, IsFitHalt, Com
 pub fn verified_code_never_sticks()
     ensures { (code : CodeParts) (verified : IsVerified code) (main shred k : ℕ)
         (frames : List Frame) (s : State) →
-        AreFit code verified.typing main s.store.objects frames → IsFitStore code s.store →
+        AreFit code verified.typing main (shapes_of s.store) frames → IsFitStore code s.store →
         exec code shred k frames s ≢ Stuck }
 {}
 
@@ -24,7 +24,7 @@ pub fn verified_code_never_sticks()
 pub fn slices_keep_what_fits()
     ensures { (code : CodeParts) (verified : IsVerified code) (main shred k : ℕ)
         (frames : List Frame) (s : State) →
-        AreFit code verified.typing main s.store.objects frames → IsFitStore code s.store →
+        AreFit code verified.typing main (shapes_of s.store) frames → IsFitStore code s.store →
         IsFitHalt code verified.typing main s (exec code shred k frames s) }
 {}
 
@@ -33,14 +33,14 @@ pub fn slices_keep_what_fits()
 pub fn slices_end()
     ensures { (code : CodeParts) (verified : IsVerified code) (main shred : ℕ) (frames : List Frame)
         (s : State) →
-        AreFit code verified.typing main s.store.objects frames → s.turns < FRESH_TURNS →
+        AreFit code verified.typing main (shapes_of s.store) frames → s.turns < FRESH_TURNS →
         exec code shred (enough code) frames s ≢ Unfinished }
 {}
 
 /// Frames that fit go on to fit as the store grows, whoever makes it grow.
 pub fn frames_fit_as_the_store_grows()
     ensures { (code : CodeParts) (verified : IsVerified code) (main : ℕ) (frames : List Frame)
-        (before after : List Object) →
+        (before after : Shapes) →
         Keeps before after → AreFit code verified.typing main before frames →
         AreFit code verified.typing main after frames }
 {}
@@ -48,9 +48,9 @@ pub fn frames_fit_as_the_store_grows()
 /// A shred begins with frames that fit.
 pub fn shreds_begin_with_what_fits()
     ensures { (code : CodeParts) (verified : IsVerified code) (main : ℕ) (fn : Fun)
-        (objects : List Object) (arguments : List Datum) →
-        slice_get code.funs main ≡ Some fn → Suit code.classes objects (params_of fn) arguments →
-        AreFit code verified.typing main objects
+        (shapes : Shapes) (arguments : List Datum) →
+        slice_get code.funs main ≡ Some fn → Suit code.classes shapes (params_of fn) arguments →
+        AreFit code verified.typing main shapes
         (frame main 0 (first_locals fn.locals arguments) [] ∷ []) }
 {}
 
@@ -65,7 +65,7 @@ pub fn runs_begin_with_what_fits()
 pub fn stopped_shreds_keep_what_fits()
     ensures { (code : CodeParts) (verified : IsVerified code) (main shred k : ℕ) (place : Place)
         (before : Store) (turns : ℕ) (frames : List Frame) (store : Store) →
-        AreFit code verified.typing main before.objects frames → ComesAfter code before store →
+        AreFit code verified.typing main (shapes_of before) frames → ComesAfter code before store →
         IsFitHalt code verified.typing main (resumed before.now turns store)
         (slice_on code shred k place before.now turns frames store) }
 {}
@@ -75,7 +75,7 @@ pub fn stopped_shreds_keep_what_fits()
 pub fn slices_of_stopped_shreds_end()
     ensures { (code : CodeParts) (verified : IsVerified code) (main shred : ℕ) (place : Place)
         (last : ℤ) (turns : ℕ) (frames : List Frame) (store : Store) →
-        AreFit code verified.typing main store.objects frames → turns ≤ FRESH_TURNS →
+        AreFit code verified.typing main (shapes_of store) frames → turns ≤ FRESH_TURNS →
         slice_on code shred (enough code) place last turns frames store ≢ Unfinished }
 {}
 
@@ -83,7 +83,7 @@ pub fn slices_of_stopped_shreds_end()
 pub fn shreds_never_stick()
     ensures { (code : CodeParts) (verified : IsVerified code) (main shred k : ℕ)
         (frames : List Frame) (s : State) (stores : List Store) →
-        AreFit code verified.typing main s.store.objects frames → IsFitStore code s.store →
+        AreFit code verified.typing main (shapes_of s.store) frames → IsFitStore code s.store →
         FollowOneAnother code shred k (exec code shred k frames s) stores →
         code_run code shred k frames s stores ≢ Stuck }
 {}
@@ -103,7 +103,7 @@ pub fn stores_go_on_to_follow()
 pub fn slices_of_shreds_end()
     ensures { (code : CodeParts) (verified : IsVerified code) (main shred : ℕ) (frames : List Frame)
         (s : State) (stores : List Store) →
-        AreFit code verified.typing main s.store.objects frames → s.turns < FRESH_TURNS →
+        AreFit code verified.typing main (shapes_of s.store) frames → s.turns < FRESH_TURNS →
         IsFitStore code s.store →
         FollowOneAnother code shred (enough code) (exec code shred (enough code) frames s) stores →
         code_run code shred (enough code) frames s stores ≢ Unfinished }

@@ -1,7 +1,7 @@
 -- When a code does what a program does.
 use Rattle.std.specs.Prelude.{◌≡◌, ℕ, ◌≤◌, pred, List, [], ◌∷◌, Some, None, slice_get}
 use Rattle.ck_values.specs.Datum.{Datum, first_locals}
-use Rattle.ck_store.specs.Store.{Store, State}
+use Rattle.ck_store.specs.Store.{Store, State, shapes_of}
 use Rattle.ck_store.specs.Steps.{fresh}
 use Rattle.ck_typed.specs.Tree.{Fun as TypedFun, Program}
 use Rattle.ck_typed.specs.WellFormed.{params_of}
@@ -49,14 +49,14 @@ IsNotWrong _ = Unit {0}
 -- ever wrong
 pub record MeansOnFitting (program : Program) (code : CodeParts) : Type 0 where
   pub agrees : (n f : ℕ) (fn : TypedFun) (vs : List Datum) (w : Store) (ws : List Store)
-      → slice_get program.funs f ≡ Some fn → Suit code.classes w.objects (params_of fn) vs →
+      → slice_get program.funs f ≡ Some fn → Suit code.classes (shapes_of w) (params_of fn) vs →
       IsFitStore code w
       → FollowOneAnother code n (enough code)
       (exec code n (enough code) (fun_frames f fn vs) (first_state w)) ws
       → Agrees (code_run code n (enough code) (fun_frames f fn vs) (first_state w) ws)
       (shred_from program n fn vs w ws)
   pub not_wrong : (n f : ℕ) (fn : TypedFun) (vs : List Datum) (w : Store) (ws : List Store)
-      → slice_get program.funs f ≡ Some fn → Suit code.classes w.objects (params_of fn) vs →
+      → slice_get program.funs f ≡ Some fn → Suit code.classes (shapes_of w) (params_of fn) vs →
       IsFitStore code w
       → FollowOneAnother code n (enough code)
       (exec code n (enough code) (fun_frames f fn vs) (first_state w)) ws

@@ -22,7 +22,7 @@ use Rattle.ck_store.specs.Steps.{and_then, found, pick}
 
 -- the place of a unit generator among all of them
 abbrev pub place_of : Option Object → Try ℕ
-place_of (Some (UnitGenerator kind place)) = Gives place
+place_of (Some (UnitGenerator place)) = Gives place
 place_of _ = Misfit
 
 -- the place of the one that a value refers to; null is a trap
@@ -46,7 +46,7 @@ unit_of store r =
 unfoldable pub unit_made : UgenKind → (maker : ℕ) → Store → Try Made
 unit_made kind maker store =
     let unit = first_unit kind maker (suc (length store.objects)) in
-    added (UnitGenerator kind (length store.units))
+    added (UnitGenerator (length store.units))
     (record store { units = store.units ++ Some unit ∷ [] })
 
 -- one more connection from one unit generator to another, at the end of all: to both sides, as no

@@ -14,7 +14,7 @@ use Rattle.ck_store.specs.Operators.{wrapped}
 use Rattle.ck_store.specs.Strings.{char_at, substring}
 use Rattle.ck_store.specs.Arrays.{item_count, cleared}
 use Rattle.ck_store.specs.Graph.{unit_keyed, unit_staged}
-use Rattle.ck_store.specs.Random.{Drawn, int_drawn, float_drawn, seed_of}
+use Rattle.ck_store.specs.Random.{int_drawn, float_drawn, seed_of}
 use Rattle.ck_store.specs.Shreds.{with_act, event_of, shred_of}
 
 -- a value, and what it leaves

@@ -1,41 +1,47 @@
 -- What a running program works on.
-use Rattle.std.specs.Prelude.{◌≡◌, ℕ, ◌+◌, ℤ, pos, List, [], ◌∷◌, Bool, map, Option, Some, option_map, slice_get}
+use Rattle.std.specs.Prelude.{◌≡◌, ℕ, ◌+◌, ℤ, pos, List, [], ◌∷◌, Bool, map, Option, Some, option_map, option_and_then, slice_get}
 use Rattle.ck_values.specs.declared.kind.Elem.{Elem}
 use Rattle.ck_values.specs.declared.kind.Kind.{Kind}
 use Rattle.ck_values.specs.declared.trap.Trap.{Trap}
 use Rattle.ugen_names.specs.declared.table.UgenKind.{UgenKind}
-use Rattle.ugen_names.specs.declared.table.UgenKind.TheVariants.{Dac, Blackhole}
 use Rattle.ck_values.specs.Datum.{Datum, first_value}
 use Rattle.rand_pcg.specs.Lcg.{Lcg}
 use Rattle.ugen_sample.specs.Connection.{Connection}
+use Rattle.ugen_kinds.specs.Generator.{kind_of}
 use Rattle.ugen_kinds.specs.Words.{first_words}
-use Rattle.ugen_sample.specs.UnitState.{Units, first_units}
+use Rattle.ugen_sample.specs.UnitState.{Units, unit_at, first_units}
 
 -- an object: an instance of a class, an array, or a unit generator, by its place among all unit
 -- generators
 pub data Object : Type 0 where
   Instance : (class : ℕ) → (fields : List Datum) → Object
   Items : Elem → (of_arrays : Bool) → (items : List Datum) → Object
-  UnitGenerator : UgenKind → (place : ℕ) → Object
+  UnitGenerator : (place : ℕ) → Object
 
--- what an object stays as long as there is a store: its class, what its items are, or its kind
+-- what an object stays as long as there is a store: its class, what its items are, or the kind of
+-- the unit generator at its place
 pub data Shape : Type 0 where
   OfClass : ℕ → Shape
   OfItems : Elem → (of_arrays : Bool) → Shape
   OfUnit : UgenKind → Shape
 
-abbrev pub shape : Object → Shape
-shape (Instance class fields) = OfClass class
-shape (Items elem of_arrays items) = OfItems elem of_arrays
-shape (UnitGenerator kind place) = OfUnit kind
+-- the shape of an object beside these unit generators: none where no unit generator is at its place
+abbrev pub shape : Units → Object → Option Shape
+shape units (Instance class fields) = Some (OfClass class)
+shape units (Items elem of_arrays items) = Some (OfItems elem of_arrays)
+shape units (UnitGenerator place) =
+    option_map (λ unit. OfUnit (kind_of unit.generator)) (unit_at units place)
 
--- the shape of the object at this place; the object numbered k is at place k - 1
-abbrev pub shape_at : List Object → ℕ → Option Shape
-shape_at objects n = option_map shape (slice_get objects n)
+-- the shapes of objects by their places; the object numbered k is at place k - 1
+abbrev pub Shapes : Type 0
+Shapes = ℕ → Option Shape
+
+abbrev pub shape_at : Units → List Object → Shapes
+shape_at units objects n = option_and_then (shape units) (slice_get objects n)
 
 -- later objects have all the earlier ones, each of its shape
-pub record Keeps (before after : List Object) : Type 0 where
-  pub each : (n : ℕ) (x : Shape) → shape_at before n ≡ Some x → shape_at after n ≡ Some x
+pub record Keeps (before after : Shapes) : Type 0 where
+  pub each : (n : ℕ) (x : Shape) → before n ≡ Some x → after n ≡ Some x
 
 -- the store: the time in samples, the objects in order of their numbers from 1, the statics, the unit
 -- generators by their places, the connections in order, the generator of random words, the sporks
@@ -50,9 +56,13 @@ pub record Store : Type 0 where
   pub sporks : ℕ
   pub next_shred : ℕ
 
+-- the shapes of its objects
+abbrev pub shapes_of : Store → Shapes
+shapes_of store = shape_at store.units store.objects
+
 -- the unit generators of every run: the output, and what pulls without being heard
 abbrev pub first_objects : List Object
-first_objects = UnitGenerator Dac 0 ∷ UnitGenerator Blackhole 1 ∷ []
+first_objects = UnitGenerator 0 ∷ UnitGenerator 1 ∷ []
 
 -- the store at the start of a run of so many files with statics of these kinds
 abbrev pub first_store : ℕ → List Kind → Store

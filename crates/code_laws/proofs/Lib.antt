@@ -28,7 +28,6 @@ pub mod Examples
 pub mod ObjectExamples
 pub mod ArrayExamples
 pub mod NextSlice
-pub mod RunStores
 pub mod SameRuns
 pub mod ShredExamples
 pub mod RunLists

@@ -5,7 +5,7 @@ use Rattle.std.specs.Prelude.{slice_get}
 use Rattle.ck_base.specs.declared.limits.TheConstants.{FRESH_TURNS}
 use Rattle.ck_values.specs.declared.trap.Place.{Place}
 use Rattle.ck_values.specs.Datum.{Datum, first_locals}
-use Rattle.ck_store.specs.Store.{Object, Store, State, Request, At, On, End, Try, Gives, Fails, Misfit}
+use Rattle.ck_store.specs.Store.{Store, State, Request, At, On, End, Try, Gives, Fails, Misfit, Shapes, shapes_of}
 use Rattle.ck_store.specs.Steps.{fresh, turn_spent, resumed, where_it_goes_on}
 use Rattle.ck_typed.specs.Tree.{Fun as TypedFun, Program}
 use Rattle.ck_typed.specs.WellFormed.{params_of, IsWellFormed}
@@ -109,25 +109,25 @@ module _ (program : Program) (fine : IsWellFormed program) where
     code_at None fn same = absurd same
     code_at (Some c) fn same = (c, refl, same)
 
-    pub frames_fit : (f : ℕ) (fn : TypedFun) (objects : List Object) (vs : List Datum)
-        → slice_get program.funs f ≡ Some fn → Suit code.classes objects (params_of fn) vs
-        → AreFit code (verified program fine code scheme).typing f objects
+    pub frames_fit : (f : ℕ) (fn : TypedFun) (shapes : Shapes) (vs : List Datum)
+        → slice_get program.funs f ≡ Some fn → Suit code.classes shapes (params_of fn) vs
+        → AreFit code (verified program fine code scheme).typing f shapes
         (fun_frames f fn vs)
-    frames_fit f fn objects vs at_f suits =
+    frames_fit f fn shapes vs at_f suits =
         let c = code_at (slice_get code.funs f) fn
         (subst (λ o. SameFun program.classes (texts_of program) o (slice_get code.funs f)) at_f (scheme.funs f)) in
-        subst (λ l. AreFit code (verified program fine code scheme).typing f objects
+        subst (λ l. AreFit code (verified program fine code scheme).typing f shapes
         (frame f 0 (first_locals l vs) [] ∷ [])) c.2.locals
-        (first_frames_fit code (verified program fine code scheme) f c.0 objects vs c.1
-        (subst (λ k. Suit code.classes objects (take k c.0.locals) vs) (sym c.2.params)
-        (subst (λ l. Suit code.classes objects (take fn.params l) vs) (sym c.2.locals) suits)))
+        (first_frames_fit code (verified program fine code scheme) f c.0 shapes vs c.1
+        (subst (λ k. Suit code.classes shapes (take k c.0.locals) vs) (sym c.2.params)
+        (subst (λ l. Suit code.classes shapes (take fn.params l) vs) (sym c.2.locals) suits)))
 
     turns_few : (w : Store) → (first_state w).turns < FRESH_TURNS
     unfolding fresh
     turns_few w = omega arith
 
     pub agrees_at : (n f : ℕ) (fn : TypedFun) (vs : List Datum) (w : Store) (ws : List Store)
-        → slice_get program.funs f ≡ Some fn → Suit code.classes w.objects (params_of fn) vs
+        → slice_get program.funs f ≡ Some fn → Suit code.classes (shapes_of w) (params_of fn) vs
         → IsFitStore code w
         → FollowOneAnother code n (enough code)
         (exec code n (enough code) (fun_frames f fn vs) (first_state w)) ws
@@ -138,7 +138,7 @@ module _ (program : Program) (fine : IsWellFormed program) where
         let frames = fun_frames f fn vs in
         let over =
         code_run_ends code (verified program fine code scheme) f n frames
-        (first_state w) ws (frames_fit f fn w.objects vs at_f suits)
+        (first_state w) ws (frames_fit f fn (shapes_of w) vs at_f suits)
         (turns_few w) fits follow in
         let same : code_run code n (enough code + a.0) frames (first_state w) ws
         ≡ code_run code n (enough code) frames (first_state w) ws =
@@ -154,5 +154,5 @@ module _ (program : Program) (fine : IsWellFormed program) where
           (agrees_at n f fn vs w ws at_f suits fits follow)
           (code_run_fits code (verified program fine code scheme) f n (enough code)
           (fun_frames f fn vs) (first_state w) ws
-          (frames_fit f fn w.objects vs at_f suits) fits follow);
+          (frames_fit f fn (shapes_of w) vs at_f suits) fits follow);
     }

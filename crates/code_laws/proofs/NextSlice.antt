@@ -3,7 +3,7 @@ use Rattle.std.proofs.Common.{◌≡◌, ◌⊎◌, inl, inr, Bool, true, false,
 use Rattle.std.proofs.lemmas.Int.{ints}
 use Rattle.ck_values.specs.declared.trap.Place.{Place}
 use Rattle.ck_values.specs.Datum.{Datum}
-use Rattle.ck_store.specs.Store.{Object, Keeps, Store, State, Request, At, On, End}
+use Rattle.ck_store.specs.Store.{Keeps, Store, State, Request, At, On, End, Shapes, shapes_of}
 use Rattle.ck_store.specs.Steps.{fresh, pick, spent_from, resumed, where_it_goes_on}
 use Rattle.ck_typed.specs.Tree.{Fun as TypedFun, Program}
 use Rattle.ck_typed.specs.WellFormed.{params_of, IsWellFormed}
@@ -115,32 +115,32 @@ module _ (program : Program) (fine : IsWellFormed program) (code : CodeParts)
   -- a shred that stopped with this request, which isn't for its end, whose slices found these stores,
   -- beside a run that has gone on to these objects and this time
   pub record Sleeps (n f : ℕ) (fn : TypedFun) (vs : List Datum) (w : Store) (ws : List Store)
-      (q : Request) (place : Place) (frames : List Frame) (s : State) (objects : List Object)
+      (q : Request) (place : Place) (frames : List Frame) (s : State) (shapes : Shapes)
       (now : ℤ) : Type 0 where
     pub stays : q ≡ End → ⊥
     pub at_fun : slice_get program.funs f ≡ Some fn
-    pub suits : Suit code.classes w.objects (params_of fn) vs
+    pub suits : Suit code.classes (shapes_of w) (params_of fn) vs
     pub fits : IsFitStore code w
     pub follow : FollowOneAnother code n (enough code) (begun n f fn vs w) ws
     pub stopped : code_run code n (enough code) (fun_frames f fn vs) (first_state w) ws
         ≡ Waits q place frames s
-    pub kept : Keeps s.store.objects objects
+    pub kept : Keeps (shapes_of s.store) shapes
     pub earlier : s.store.now ≤ℤ now
 
   -- what others do leaves it asleep
   pub sleeps_on : {n f : ℕ} {fn : TypedFun} {vs : List Datum} {w : Store} {ws : List Store}
       {q : Request} {place : Place} {frames : List Frame} {s : State}
-      (objects next : List Object) (now later : ℤ) → Keeps objects next → now ≤ℤ later
-      → Sleeps n f fn vs w ws q place frames s objects now
+      (shapes next : Shapes) (now later : ℤ) → Keeps shapes next → now ≤ℤ later
+      → Sleeps n f fn vs w ws q place frames s shapes now
       → Sleeps n f fn vs w ws q place frames s next later
-  sleeps_on {s = s} objects next now later kept le h = record {
+  sleeps_on {s = s} shapes next now later kept le h = record {
     stays = h.stays;
     at_fun = h.at_fun;
     suits = h.suits;
     fits = h.fits;
     follow = h.follow;
     stopped = h.stopped;
-    kept = kept_trans s.store.objects objects next h.kept kept;
+    kept = kept_trans (shapes_of s.store) shapes next h.kept kept;
     earlier = omega (arith, ints, h.earlier, le);
   }
 
@@ -153,12 +153,12 @@ module _ (program : Program) (fine : IsWellFormed program) (code : CodeParts)
     pub fits : IsFitHalt code V.typing f start h
     pub again : (q : Request) (place : Place) (frames : List Frame) (s : State)
         → h ≡ Waits q place frames s → (q ≡ End → ⊥)
-        → Sleeps n f fn vs w ws q place frames s s.store.objects s.store.now
+        → Sleeps n f fn vs w ws q place frames s (shapes_of s.store) s.store.now
 
   -- the slice of a shred that sleeps
   pub wakes : (n f : ℕ) (fn : TypedFun) (vs : List Datum) (w : Store) (ws : List Store)
       (q : Request) (place : Place) (frames : List Frame) (s : State) (present : Store)
-      → Sleeps n f fn vs w ws q place frames s present.objects present.now → IsFitStore code present
+      → Sleeps n f fn vs w ws q place frames s (shapes_of present) present.now → IsFitStore code present
       → Wakes n f fn vs w (ws ++ present ∷ []) (resumed s.store.now s.turns present)
       (slice_on code n (enough code) place s.store.now s.turns frames present)
   wakes n f fn vs w ws q place frames s present h fit =
@@ -172,7 +172,7 @@ module _ (program : Program) (fine : IsWellFormed program) (code : CodeParts)
       slices_last code n (enough code) (begun n f fn vs w) ws present
       ∙ ap (after code n (enough code) present) h.stopped
       ∙ goes_on q (Waits q place frames s) _ h.stays in
-      let first = frames_fit program fine code scheme f fn w.objects vs h.at_fun h.suits in
+      let first = frames_fit program fine code scheme f fn (shapes_of w) vs h.at_fun h.suits in
       let left =
       slices_keep code V f n (enough code) (begun n f fn vs w) ws
       (keeps_frames code V f n (first_state w) _
@@ -195,7 +195,7 @@ module _ (program : Program) (fine : IsWellFormed program) (code : CodeParts)
           fits = h.fits;
           follow = follow;
           stopped = same ∙ e;
-          kept = kept_same s1.store.objects;
+          kept = kept_same (shapes_of s1.store);
           earlier = omega (arith, ints);
         };
       }
@@ -209,14 +209,14 @@ module _ (program : Program) (fine : IsWellFormed program) (code : CodeParts)
 
   -- the first slice of a shred
   pub wakes_first : (n f : ℕ) (fn : TypedFun) (vs : List Datum) (w : Store)
-      → slice_get program.funs f ≡ Some fn → Suit code.classes w.objects (params_of fn) vs
+      → slice_get program.funs f ≡ Some fn → Suit code.classes (shapes_of w) (params_of fn) vs
       → IsFitStore code w → Wakes n f fn vs w [] (first_state w) (begun n f fn vs w)
   wakes_first n f fn vs w at_fun suits fits =
       let follow = follow_none n (begun n f fn vs w) in
       let same : code_run code n (enough code) (fun_frames f fn vs) (first_state w) []
       ≡ begun n f fn vs w = slices_none code n (enough code) (begun n f fn vs w) in
       let means = means program fine code scheme in
-      let first = frames_fit program fine code scheme f fn w.objects vs at_fun suits in
+      let first = frames_fit program fine code scheme f fn (shapes_of w) vs at_fun suits in
       record {
         agrees = subst (λ x. Agrees x (shred_from program n fn vs w [])) same
             (means.agrees n f fn vs w [] at_fun suits fits follow);
@@ -230,7 +230,7 @@ module _ (program : Program) (fine : IsWellFormed program) (code : CodeParts)
           fits = fits;
           follow = follow;
           stopped = same ∙ e;
-          kept = kept_same s.store.objects;
+          kept = kept_same (shapes_of s.store);
           earlier = omega (arith, ints);
         };
       }

@@ -14,6 +14,7 @@ use Rattle.ck_code.specs.declared.code.Fun.{Fun}
 use Rattle.ck_code.specs.Verified.{Typing, AllStand, AreAt, Finds, UnlessNull, Receiver, UnlessOnNull, OnTop, UpdatesWith, Fits}
 use Rattle.ck_code.specs.Verified as code
 use Rattle.ck_code.proofs.Standing.{unless, found_is, where_found}
+use Rattle.ck_store.specs.Store.{shape_at}
 use Rattle.ck_code.proofs.Values.{native_count}
 use Rattle.ck_code.proofs.Nulls.{on_something}
 use Rattle.ck_scheme.specs.Scheme.{at, count_of}
@@ -104,7 +105,7 @@ called_on classes call (k ∷ ks) (j ∷ js) under P is stand h =
     receiver_is js under j (length params) P (omega (
       arith,
       stand_count classes js (ks ++ map One params) stand.1,
-      native_count [] [] call (k ∷ ks) is,
+      native_count [] (shape_at [] []) call (k ∷ ks) is,
       on_something call k ks is,
       length-append ks (map One params),
       length-append (k ∷ ks) (map One params),

@@ -13,6 +13,7 @@ use Rattle.ck_typed.specs.declared.operation.Binary.{Binary as OfTwo}
 use Rattle.ck_typed.specs.declared.operation.Binary.TheVariants as op2
 use Rattle.ck_typed.specs.declared.operation.Variadic.{Variadic as OfMany}
 use Rattle.ck_typed.specs.declared.operation.Variadic.TheVariants as opn
+use Rattle.ck_store.specs.Store.{shape_at}
 use Rattle.ck_code.proofs.Values.{native_count}
 use Rattle.ck_code.proofs.Standing.{found_is, where_found}
 use Rattle.ck_scheme.specs.Scheme.{count_of}
@@ -156,7 +157,7 @@ module _ (program : Program) (fine : IsWellFormed program) (locals : List Kind) 
       omega (arith, length-take fn.0.params fn.0.locals, ap length fn.2.0, ff.params) in
       where_found (slice_get program.funs f) (λ fn. 1 ≡ fn.params) fn.0 fn.1 one
   on_two (op2.ChuckNative call) a b k h =
-      sym (native_count program.classes [] call (h.0 ∷ []) h.2)
+      sym (native_count program.classes (shape_at [] []) call (h.0 ∷ []) h.2)
       ∙ ap (λ es. length (h.0 ∷ map One es)) h.5
   on_two _ a b k h = tt
 
@@ -170,7 +171,7 @@ module _ (program : Program) (fine : IsWellFormed program) (locals : List Kind) 
       takes_arguments f args fn.0 fn.1 fn.2.0
   on_many (opn.Native call) args k h =
       sym (wanted args (h.0 ++ map One (built_in call).params) h.2
-      ∙ native_count program.classes [] call h.0 h.1)
+      ∙ native_count program.classes (shape_at [] []) call h.0 h.1)
   on_many (opn.Spork f) args k h =
       let fn = found_is (slice_get program.funs f) _ h.0 in
       takes_arguments f args fn.0 fn.1 fn.2

@@ -7,14 +7,14 @@ use Rattle.ck_base.specs.declared.limits.TheConstants.{MAX_FILES, MAX_SAMPLES}
 use Rattle.ck_values.specs.declared.kind.Kind.{Kind}
 use Rattle.ck_values.specs.declared.trap.Place.{Place}
 use Rattle.ck_values.specs.Datum.{Datum, first_locals}
-use Rattle.ck_store.specs.Store.{Object, Keeps, Store, State, Act, Printed, Sporked, WokeOne, WokeAll, Removed, Request, At, On, End, first_store}
+use Rattle.ck_store.specs.Store.{Keeps, Store, State, Act, Printed, Sporked, WokeOne, WokeAll, Removed, Request, At, On, End, first_store, Shapes, shapes_of}
 use Rattle.ck_store.specs.Steps.{fresh, resumed}
 use Rattle.ck_typed.specs.Tree.{Fun as TypedFun, Program}
 use Rattle.ck_typed.specs.WellFormed.{FoundWhere, params_of, IsMain, IsWellFormed}
 use Rattle.ck_code.specs.declared.code.CodeParts.{CodeParts}
 use Rattle.ck_code.specs.declared.code.Fun.{Fun}
 use Rattle.ck_code.specs.Fitting.{Suit, IsFitStore, IsFitAct, IsFitHalt}
-use Rattle.ck_code.proofs.Standing.{kept_same, suit_kept}
+use Rattle.ck_code.proofs.Standing.{suit_kept}
 use Rattle.ck_code.specs.Machine.{Frame, frame, Halt, Waits, exec, slice_on, begun_on, enough}
 use Rattle.ck_code.specs.Verified.{IsVerified, params_of as code_params}
 use Rattle.ck_code.proofs.Runs.{first_store_fits}
@@ -28,7 +28,7 @@ use Rattle.ck_scheme.specs.Scheme.{SameFun, IsScheme}
 use Rattle.ck_scheme.specs.Follows.{Agrees, first_state, fun_frames, IsNotWrong, IsSettled, HasSameRuns}
 use Rattle.run_laws.proofs.Settles.{settles_at}
 use Rattle.code_laws.proofs.Verifies.{verified, calls}
-use Rattle.code_laws.proofs.RunStores.{cut_fits, sample_fits}
+use Rattle.run_laws.proofs.RunStores.{cut_fits, sample_fits, sample_keeps}
 use Rattle.code_laws.proofs.RunLists.{AllAlike, alike_map, alike_more, alike_weaker, same_count, LiveAlike, both_none, both_some, live_alike, came_alike, ends_alike, kept_alike, Among, itself_ends, found_among}
 use Rattle.code_laws.proofs.NextSlice.{first_slice, last_or, begun, Sleeps, sleeps_on, Wakes, wakes, wakes_first}
 
@@ -39,37 +39,37 @@ module _ (program : Program) (fine : IsWellFormed program) (code : CodeParts)
 
   -- the code stands where the replay has come to, beside these objects at this time: at the start of
   -- its function, or where it stopped last
-  abbrev Stands : (objects : List Object) (now : ℤ) (n : ℕ) (fn : TypedFun) → Replay → Stopped
+  abbrev Stands : (shapes : Shapes) (now : ℤ) (n : ℕ) (fn : TypedFun) → Replay → Stopped
       → (found : List Store) → Type 0
-  Stands objects now n fn r c [] =
-      Suit code.classes objects (params_of fn) r.arguments × (c ≡ beginning code r.fun r.arguments)
-  Stands objects now n fn r c (w ∷ ws) =
+  Stands shapes now n fn r c [] =
+      Suit code.classes shapes (params_of fn) r.arguments × (c ≡ beginning code r.fun r.arguments)
+  Stands shapes now n fn r c (w ∷ ws) =
       (q : Request) × (s : State)
-      × Sleeps program fine code scheme n r.fun fn r.arguments w ws q c.place c.frames s objects now
+      × Sleeps program fine code scheme n r.fun fn r.arguments w ws q c.place c.frames s shapes now
       × (c ≡ waiting c.place c.frames s)
 
-  pub record Same (objects : List Object) (now : ℤ) (n : ℕ) (r : Replay)
+  pub record Same (shapes : Shapes) (now : ℤ) (n : ℕ) (r : Replay)
       (c : Stopped) : Type 0 where
     pub fn : TypedFun
     pub at_fun : slice_get program.funs r.fun ≡ Some fn
-    pub stands : Stands objects now n fn r c r.found
+    pub stands : Stands shapes now n fn r c r.found
 
-  stands_on : (objects next : List Object) (now later : ℤ) → Keeps objects next → now ≤ℤ later
+  stands_on : (shapes next : Shapes) (now later : ℤ) → Keeps shapes next → now ≤ℤ later
       → (n : ℕ) (fn : TypedFun) (r : Replay) (c : Stopped) (found : List Store)
-      → Stands objects now n fn r c found → Stands next later n fn r c found
-  stands_on objects next now later kept le n fn r c [] h =
-      (suit_kept code.classes objects next kept (params_of fn) r.arguments h.0, h.1)
-  stands_on objects next now later kept le n fn r c (w ∷ ws) h =
-      (h.0, h.1, sleeps_on program fine code scheme objects next now later kept le h.2, h.3)
+      → Stands shapes now n fn r c found → Stands next later n fn r c found
+  stands_on shapes next now later kept le n fn r c [] h =
+      (suit_kept code.classes shapes next kept (params_of fn) r.arguments h.0, h.1)
+  stands_on shapes next now later kept le n fn r c (w ∷ ws) h =
+      (h.0, h.1, sleeps_on program fine code scheme shapes next now later kept le h.2, h.3)
 
   -- what others do leaves them the same
-  same_on : (objects next : List Object) (now later : ℤ) → Keeps objects next → now ≤ℤ later
-      → (n : ℕ) (r : Replay) (c : Stopped) → Same objects now n r c → Same next later n r c
-  same_on objects next now later kept le n r c h =
+  same_on : (shapes next : Shapes) (now later : ℤ) → Keeps shapes next → now ≤ℤ later
+      → (n : ℕ) (r : Replay) (c : Stopped) → Same shapes now n r c → Same next later n r c
+  same_on shapes next now later kept le n r c h =
       record {
         fn = h.fn;
         at_fun = h.at_fun;
-        stands = stands_on objects next now later kept le n h.fn r c r.found h.stands;
+        stands = stands_on shapes next now later kept le n h.fn r c r.found h.stands;
       }
 
   -- two slices that do the same; where the shred goes on, both have come to the same
@@ -78,11 +78,11 @@ module _ (program : Program) (fine : IsWellFormed program) (code : CodeParts)
     pub stop : a.stop ≡ b.stop
     pub store : a.store ≡ b.store
     pub acts : a.acts ≡ b.acts
-    pub acts_fit : All (IsFitAct code a.store.objects) a.acts
+    pub acts_fit : All (IsFitAct code (shapes_of a.store)) a.acts
     pub fits : IsFitStore code a.store
     pub time : a.store.now ≡ before.now
-    pub kept : Keeps before.objects a.store.objects
-    pub still : (Same a.store.objects a.store.now n a.progress b.progress) ⊎ (((q : Request)
+    pub kept : Keeps (shapes_of before) (shapes_of a.store)
+    pub still : (Same (shapes_of a.store) a.store.now n a.progress b.progress) ⊎ (((q : Request)
         → a.stop ≡ Asked q → q ≡ End))
 
   -- the slice of a shred by its halt and its outcome, which agree
@@ -94,10 +94,10 @@ module _ (program : Program) (fine : IsWellFormed program) (code : CodeParts)
 
     agreed : (e : Outcome Datum) (h : Halt) → Agrees h e → IsNotWrong e
         → IsFitHalt code V.typing f start h
-        → All (IsFitAct code start.store.objects) start.acts
+        → All (IsFitAct code (shapes_of start.store)) start.acts
         → ((q : Request) (place : Place) (frames : List Frame) (s : State)
         → h ≡ Waits q place frames s → (q ≡ End → ⊥)
-        → Sleeps program fine code scheme n f fn vs w ws q place frames s s.store.objects s.store.now)
+        → Sleeps program fine code scheme n f fn vs w ws q place frames s (shapes_of s.store) s.store.now)
         → SameSlice n start.store (slice_by now_found start.store e) (slice_with b c start.store h)
     agreed (Done v point) h agrees good fits acts again =
         let f2 = subst (IsFitHalt code V.typing f start) agrees fits in
@@ -173,7 +173,7 @@ module _ (program : Program) (fine : IsWellFormed program) (code : CodeParts)
       (ws : List Store) (start : State) (h : Halt) → slice_get program.funs f ≡ Some fn
       → slice_on code n (enough code) c.place c.last c.turns c.frames start.store ≡ h
       → Wakes program fine code scheme n f fn vs w ws start h
-      → All (IsFitAct code start.store.objects) start.acts
+      → All (IsFitAct code (shapes_of start.store)) start.acts
       → SameSlice n start.store (slice_source n f vs w ws start.store) (slice_code n c start.store)
   woken_same n f fn vs c w ws start h at_fun is wakes acts =
       let e = shred_from program n fn vs w ws in
@@ -190,7 +190,7 @@ module _ (program : Program) (fine : IsWellFormed program) (code : CodeParts)
 
   -- the next slices of one shred do the same
   same_slices : (n : ℕ) (r : Replay) (c : Stopped) (x : Store) (fn : TypedFun) (found : List Store)
-      → slice_get program.funs r.fun ≡ Some fn → Stands x.objects x.now n fn r c found
+      → slice_get program.funs r.fun ≡ Some fn → Stands (shapes_of x) x.now n fn r c found
       → IsFitStore code x
       → SameSlice n x (slice_by (record r { found = found ++ x ∷ [] }) x
       (replayed program n r (found ++ x ∷ []))) (slice_code n c x)
@@ -203,7 +203,7 @@ module _ (program : Program) (fine : IsWellFormed program) (code : CodeParts)
       (begin_frames r.fun fn r.arguments at_fun) in
       woken_same n r.fun fn r.arguments c x [] (first_state x) _ at_fun is
       (wakes_first program fine code scheme n r.fun fn r.arguments x at_fun stands.0 fit)
-      (All-nil (IsFitAct code x.objects))
+      (All-nil (IsFitAct code (shapes_of x)))
   same_slices n r c x fn (w ∷ ws) at_fun stands fit =
       let q = stands.0 in
       let s = stands.1 in
@@ -214,9 +214,9 @@ module _ (program : Program) (fine : IsWellFormed program) (code : CodeParts)
       woken_same n r.fun fn r.arguments c w (ws ++ x
       ∷ []) (resumed s.store.now s.turns x) _ at_fun is
       (wakes program fine code scheme n r.fun fn r.arguments w ws q c.place c.frames s x
-      stands.2 fit) (All-nil (IsFitAct code x.objects))
+      stands.2 fit) (All-nil (IsFitAct code (shapes_of x)))
 
-  same_slice : (n : ℕ) (r : Replay) (c : Stopped) (x : Store) → Same x.objects x.now n r c
+  same_slice : (n : ℕ) (r : Replay) (c : Stopped) (x : Store) → Same (shapes_of x) x.now n r c
       → IsFitStore code x → SameSlice n x ((by_source program).slice n r x)
       ((by_code code).slice n c x)
   same_slice n r c x same fit = same_slices n r c x same.fn r.found same.at_fun same.stands fit
@@ -232,7 +232,7 @@ module _ (program : Program) (fine : IsWellFormed program) (code : CodeParts)
 
   -- beside this store
   abbrev SameAt : Store → ℕ → Replay → Stopped → Type 0
-  SameAt store = Same store.objects store.now
+  SameAt store = Same (shapes_of store) store.now
 
   -- the two runs have the same of all that shows, at this time, and their shreds stand alike, but
   -- for some
@@ -367,39 +367,39 @@ module _ (program : Program) (fine : IsWellFormed program) (code : CodeParts)
       (subst (λ m. SameRun t Never (run.carried_out a n stop) (run.carried_out b m stop)) (sym ny)
       (carried_same t n stop a b (found_among n a.shreds x is) same))
 
-  -- the runs stand alike, and the objects of the store are these
-  abbrev Beside : ℤ → (ℕ → Type 0) → List Object → Run Replay → Run Stopped → Type 0
-  Beside t P objects a b = SameRun t P a b × (a.store.objects ≡ objects)
+  -- the runs stand alike, and the objects of the store have these shapes
+  abbrev Beside : ℤ → (ℕ → Type 0) → Shapes → Run Replay → Run Stopped → Type 0
+  Beside t P shapes a b = SameRun t P a b × (shapes_of a.store ≡ shapes)
 
   -- a function begins alike on arguments that suit it
-  begin_of : (objects : List Object) (now : ℤ) (o : Option TypedFun) (oc : Option Fun) (f n : ℕ)
+  begin_of : (shapes : Shapes) (now : ℤ) (o : Option TypedFun) (oc : Option Fun) (f n : ℕ)
       (arguments : List Datum) → slice_get program.funs f ≡ o
       → SameFun program.classes (texts_of program) o oc
-      → FoundWhere oc (λ fn. Suit code.classes objects (code_params fn) arguments)
-      → Same objects now n (src.begin f arguments) (cod.begin f arguments)
-  begin_of objects now None None f n arguments at_f same suits = absurd suits
-  begin_of objects now None (Some fc) f n arguments at_f same suits = absurd same
-  begin_of objects now (Some fn) None f n arguments at_f same suits = absurd suits
-  begin_of objects now (Some fn) (Some fc) f n arguments at_f same suits = record {
+      → FoundWhere oc (λ fn. Suit code.classes shapes (code_params fn) arguments)
+      → Same shapes now n (src.begin f arguments) (cod.begin f arguments)
+  begin_of shapes now None None f n arguments at_f same suits = absurd suits
+  begin_of shapes now None (Some fc) f n arguments at_f same suits = absurd same
+  begin_of shapes now (Some fn) None f n arguments at_f same suits = absurd suits
+  begin_of shapes now (Some fn) (Some fc) f n arguments at_f same suits = record {
     fn = fn;
     at_fun = at_f;
     stands = (
-      subst (λ m. Suit code.classes objects (take m fn.locals) arguments) same.params
-          (subst (λ l. Suit code.classes objects (take fc.params l) arguments) same.locals suits),
+      subst (λ m. Suit code.classes shapes (take m fn.locals) arguments) same.params
+          (subst (λ l. Suit code.classes shapes (take fc.params l) arguments) same.locals suits),
       refl,
     );
   }
 
   -- a child is one more, where its parent hasn't ended
   child_same : (t : ℤ) (P : ℕ → Type 0) (n number f : ℕ) (arguments : List Datum)
-      (objects : List Object) (a : Run Replay) (b : Run Stopped) (oa : Option (Shred Replay))
+      (shapes : Shapes) (a : Run Replay) (b : Run Stopped) (oa : Option (Shred Replay))
       (ob : Option (Shred Stopped)) → LiveAlike (SameAt a.store) P n a.shreds b.shreds oa ob
       → SameAt a.store number (src.begin f arguments) (cod.begin f arguments)
-      → Beside t P objects a b
-      → Beside t P objects (run.with_child a n number (src.begin f arguments) oa)
+      → Beside t P shapes a b
+      → Beside t P shapes (run.with_child a n number (src.begin f arguments) oa)
       (run.with_child b n number (cod.begin f arguments) ob)
-  child_same t P n number f arguments objects a b _ _ (both_none rest) begins same = same
-  child_same t P n number f arguments objects a b _ _ (both_some x y nx ny h) begins same = (
+  child_same t P n number f arguments shapes a b _ _ (both_none rest) begins same = same
+  child_same t P n number f arguments shapes a b _ _ (both_some x y nx ny h) begins same = (
     record {
       store = same.0.store;
       shreds = alike_more (SameAt a.store) P _ _ refl refl begins a.shreds b.shreds same.0.shreds;
@@ -417,11 +417,11 @@ module _ (program : Program) (fine : IsWellFormed program) (code : CodeParts)
   )
 
   -- what waited is due
-  woken_alike : (t : ℤ) (P : ℕ → Type 0) (objects : List Object) (a : Run Replay)
-      (b : Run Stopped) (o : Option run.Wait) → Beside t P objects a b
-      → Beside t P objects (run.woken a o) (run.woken b o)
-  woken_alike t P objects a b None same = same
-  woken_alike t P objects a b (Some wait) same = (
+  woken_alike : (t : ℤ) (P : ℕ → Type 0) (shapes : Shapes) (a : Run Replay)
+      (b : Run Stopped) (o : Option run.Wait) → Beside t P shapes a b
+      → Beside t P shapes (run.woken a o) (run.woken b o)
+  woken_alike t P shapes a b None same = same
+  woken_alike t P shapes a b (Some wait) same = (
     record {
       store = same.0.store;
       shreds = same.0.shreds;
@@ -438,40 +438,40 @@ module _ (program : Program) (fine : IsWellFormed program) (code : CodeParts)
     same.1,
   )
 
-  all_woken_alike : (t : ℤ) (P : ℕ → Type 0) (objects : List Object) (waits : List run.Wait)
-      (a : Run Replay) (b : Run Stopped) → Beside t P objects a b
-      → Beside t P objects (fold (λ now wait. run.woken now (Some wait)) a waits)
+  all_woken_alike : (t : ℤ) (P : ℕ → Type 0) (shapes : Shapes) (waits : List run.Wait)
+      (a : Run Replay) (b : Run Stopped) → Beside t P shapes a b
+      → Beside t P shapes (fold (λ now wait. run.woken now (Some wait)) a waits)
       (fold (λ now wait. run.woken now (Some wait)) b waits)
-  all_woken_alike t P objects [] a b same = same
-  all_woken_alike t P objects (wait ∷ waits) a b same =
-      all_woken_alike t P objects waits _ _ (woken_alike t P objects a b (Some wait) same)
+  all_woken_alike t P shapes [] a b same = same
+  all_woken_alike t P shapes (wait ∷ waits) a b same =
+      all_woken_alike t P shapes waits _ _ (woken_alike t P shapes a b (Some wait) same)
 
   -- the same shred ends, if there is one
-  removed_same : (t : ℤ) (P : ℕ → Type 0) (n : ℕ) (objects : List Object) (a : Run Replay)
+  removed_same : (t : ℤ) (P : ℕ → Type 0) (n : ℕ) (shapes : Shapes) (a : Run Replay)
       (b : Run Stopped) (oa : Option (Shred Replay)) (ob : Option (Shred Stopped))
-      → LiveAlike (SameAt a.store) P n a.shreds b.shreds oa ob → Beside t P objects a b
-      → Beside t P objects (run.ended_where a oa) (run.ended_where b ob)
-  removed_same t P n objects a b _ _ (both_none rest) same = same
-  removed_same t P n objects a b _ _ (both_some x y nx ny h) same = (
+      → LiveAlike (SameAt a.store) P n a.shreds b.shreds oa ob → Beside t P shapes a b
+      → Beside t P shapes (run.ended_where a oa) (run.ended_where b ob)
+  removed_same t P n shapes a b _ _ (both_none rest) same = same
+  removed_same t P n shapes a b _ _ (both_some x y nx ny h) same = (
     subst (λ m. SameRun t P (run.ended a x.number) (run.ended b m)) (nx ∙ sym ny)
         (ended_same t P P x.number a b (λ m p. inr p) same.0),
     same.1,
   )
 
-  removed_at_same : (t : ℤ) (P : ℕ → Type 0) (number : ℤ) (objects : List Object)
-      (a : Run Replay) (b : Run Stopped) → Beside t P objects a b
-      → Beside t P objects (run.ended_where a (run.live_at a number))
+  removed_at_same : (t : ℤ) (P : ℕ → Type 0) (number : ℤ) (shapes : Shapes)
+      (a : Run Replay) (b : Run Stopped) → Beside t P shapes a b
+      → Beside t P shapes (run.ended_where a (run.live_at a number))
       (run.ended_where b (run.live_at b number))
-  removed_at_same t P (pos n) objects a b same =
-      removed_same t P n objects a b (run.live a n) (run.live b n)
+  removed_at_same t P (pos n) shapes a b same =
+      removed_same t P n shapes a b (run.live a n) (run.live b n)
       (live_alike (SameAt a.store) P n a.shreds b.shreds same.0.shreds) same
-  removed_at_same t P (negsuc n) objects a b same = same
+  removed_at_same t P (negsuc n) shapes a b same = same
 
   -- an act that fits does the same to both
-  act_same : (t : ℤ) (P : ℕ → Type 0) (n : ℕ) (objects : List Object) (act : Act)
-      (a : Run Replay) (b : Run Stopped) → IsFitAct code objects act → Beside t P objects a b
-      → Beside t P objects (run.applied src n a act) (run.applied cod n b act)
-  act_same t P n objects (Printed line) a b fits same = (
+  act_same : (t : ℤ) (P : ℕ → Type 0) (n : ℕ) (shapes : Shapes) (act : Act)
+      (a : Run Replay) (b : Run Stopped) → IsFitAct code shapes act → Beside t P shapes a b
+      → Beside t P shapes (run.applied src n a act) (run.applied cod n b act)
+  act_same t P n shapes (Printed line) a b fits same = (
     record {
       store = same.0.store;
       shreds = same.0.shreds;
@@ -485,34 +485,34 @@ module _ (program : Program) (fine : IsWellFormed program) (code : CodeParts)
     },
     same.1,
   )
-  act_same t P n objects (Sporked number f arguments) a b fits same =
-      child_same t P n number f arguments objects a b (run.live a n) (run.live b n)
+  act_same t P n shapes (Sporked number f arguments) a b fits same =
+      child_same t P n number f arguments shapes a b (run.live a n) (run.live b n)
       (live_alike (SameAt a.store) P n a.shreds b.shreds same.0.shreds)
-      (begin_of a.store.objects a.store.now (slice_get program.funs f) (slice_get code.funs f) f
+      (begin_of (shapes_of a.store) a.store.now (slice_get program.funs f) (slice_get code.funs f) f
       number arguments refl (scheme.funs f)
       (subst (λ some. IsFitAct code some (Sporked number f arguments)) (sym same.1) fits)) same
-  act_same t P n objects (WokeOne event) a b fits same =
+  act_same t P n shapes (WokeOne event) a b fits same =
       let first = λ (waits : List run.Wait). find (λ (wait : run.Wait). nat_eq wait.event event) waits in
-      subst (λ o. Beside t P objects (run.woken a (first a.waits)) (run.woken b o))
-      (ap first same.0.waits) (woken_alike t P objects a b (first a.waits) same)
-  act_same t P n objects (WokeAll event) a b fits same =
+      subst (λ o. Beside t P shapes (run.woken a (first a.waits)) (run.woken b o))
+      (ap first same.0.waits) (woken_alike t P shapes a b (first a.waits) same)
+  act_same t P n shapes (WokeAll event) a b fits same =
       let all = λ (waits : List run.Wait). filter (λ (wait : run.Wait). nat_eq wait.event event) waits in
-      subst (λ waits. Beside t P objects
+      subst (λ waits. Beside t P shapes
       (fold (λ now wait. run.woken now (Some wait)) a (all a.waits))
       (fold (λ now wait. run.woken now (Some wait)) b waits)) (ap all same.0.waits)
-      (all_woken_alike t P objects (all a.waits) a b same)
-  act_same t P n objects (Removed number) a b fits same =
-      removed_at_same t P number objects a b same
+      (all_woken_alike t P shapes (all a.waits) a b same)
+  act_same t P n shapes (Removed number) a b fits same =
+      removed_at_same t P number shapes a b same
 
   -- so do all acts of a slice, one after another
-  acts_same : (t : ℤ) (P : ℕ → Type 0) (n : ℕ) (objects : List Object) (acts : List Act)
-      (a : Run Replay) (b : Run Stopped) → All (IsFitAct code objects) acts
-      → Beside t P objects a b
-      → Beside t P objects (fold (run.applied src n) a acts) (fold (run.applied cod n) b acts)
-  acts_same t P n objects [] a b fits same = same
-  acts_same t P n objects (act ∷ acts) a b fits same =
-      acts_same t P n objects acts _ _ (All-tail (IsFitAct code objects) act acts fits)
-      (act_same t P n objects act a b (All-head (IsFitAct code objects) act acts fits) same)
+  acts_same : (t : ℤ) (P : ℕ → Type 0) (n : ℕ) (shapes : Shapes) (acts : List Act)
+      (a : Run Replay) (b : Run Stopped) → All (IsFitAct code shapes) acts
+      → Beside t P shapes a b
+      → Beside t P shapes (fold (run.applied src n) a acts) (fold (run.applied cod n) b acts)
+  acts_same t P n shapes [] a b fits same = same
+  acts_same t P n shapes (act ∷ acts) a b fits same =
+      acts_same t P n shapes acts _ _ (All-tail (IsFitAct code shapes) act acts fits)
+      (act_same t P n shapes act a b (All-head (IsFitAct code shapes) act acts fits) same)
 
   -- what a slice left, before its acts are applied
   abbrev left_of : {A : Type 0} → Run A → ℕ → Slice A → Run A
@@ -558,12 +558,12 @@ module _ (program : Program) (fine : IsWellFormed program) (code : CodeParts)
       (sb : Slice Stopped) → a.store ≡ x → SameSlice n x sa sb → SameRun t Never a b
       → SameRun t (Last n sa.stop) (acted src a n sa) (acted cod b n sb)
   acted_same t n x a b sa sb at_x one same =
-      let kept : Keeps a.store.objects sa.store.objects =
-      subst (λ store. Keeps store.objects sa.store.objects) (sym at_x) one.kept in
+      let kept : Keeps (shapes_of a.store) (shapes_of sa.store) =
+      subst (λ store. Keeps (shapes_of store) (shapes_of sa.store)) (sym at_x) one.kept in
       let is_now : sa.store.now ≡ a.store.now = one.time ∙ ap (λ s. s.now) (sym at_x) in
       let others =
       alike_map (SameAt a.store) (SameAt sa.store) Never (λ m r c h.
-      same_on a.store.objects sa.store.objects a.store.now sa.store.now kept (omega (
+      same_on (shapes_of a.store) (shapes_of sa.store) a.store.now sa.store.now kept (omega (
         arith,
         ints,
         is_now,
@@ -584,7 +584,7 @@ module _ (program : Program) (fine : IsWellFormed program) (code : CodeParts)
       } in
       subst (λ acts. SameRun t (Last n sa.stop) (acted src a n sa)
       (fold (run.applied cod n) (left_of b n sb) acts)) one.acts
-      (acts_same t (Last n sa.stop) n sa.store.objects sa.acts (left_of a n sa) (left_of b n sb)
+      (acts_same t (Last n sa.stop) n (shapes_of sa.store) sa.acts (left_of a n sa) (left_of b n sb)
       one.acts_fit (left, refl)).0
 
   -- after a slice of one shred
@@ -675,8 +675,9 @@ module _ (program : Program) (fine : IsWellFormed program) (code : CodeParts)
   sampled_same count a b few same = record {
     store = ap {A = Store} {B = Store} (run.after_sample cod) same.store;
     shreds = alike_map (SameAt a.store) (SameAt (run.after_sample src a.store)) Never (λ n r c h.
-        same_on a.store.objects a.store.objects a.store.now (a.store.now +ℤ pos 1)
-        (kept_same a.store.objects) (omega (arith, ints)) n r c h) a.shreds b.shreds same.shreds;
+        same_on (shapes_of a.store) (shapes_of (run.after_sample src a.store)) a.store.now
+        (a.store.now +ℤ pos 1) (sample_keeps a.store) (omega (arith, ints)) n r c h) a.shreds b.shreds
+        same.shreds;
     due = same.due;
     waits = same.waits;
     samples = ap (λ l. l ++ run.output_of (run.after_sample src a.store) ∷ []) same.samples
@@ -687,16 +688,16 @@ module _ (program : Program) (fine : IsWellFormed program) (code : CodeParts)
     time = omega (arith, ints, same.time);
   }
 
-  none_taken : (objects : List Object) (k : ℕ) (kinds : List Kind) → k ≡ 0
-      → Suit code.classes objects (take k kinds) []
-  none_taken objects k kinds e = subst (λ m. Suit code.classes objects (take m kinds) []) (sym e) tt
+  none_taken : (shapes : Shapes) (k : ℕ) (kinds : List Kind) → k ≡ 0
+      → Suit code.classes shapes (take k kinds) []
+  none_taken shapes k kinds e = subst (λ m. Suit code.classes shapes (take m kinds) []) (sym e) tt
 
-  main_begins : (objects : List Object) (now : ℤ) (o : Option TypedFun) (f n : ℕ)
+  main_begins : (shapes : Shapes) (now : ℤ) (o : Option TypedFun) (f n : ℕ)
       → slice_get program.funs f ≡ o → FoundWhere o (λ fn. fn.params ≡ 0)
-      → Same objects now n (src.begin f []) (cod.begin f [])
-  main_begins objects now None f n at_f main = absurd main
-  main_begins objects now (Some fn) f n at_f main =
-      record { fn = fn; at_fun = at_f; stands = (none_taken objects fn.params fn.locals main, refl) }
+      → Same shapes now n (src.begin f []) (cod.begin f [])
+  main_begins shapes now None f n at_f main = absurd main
+  main_begins shapes now (Some fn) f n at_f main =
+      record { fn = fn; at_fun = at_f; stands = (none_taken shapes fn.params fn.locals main, refl) }
 
   first_alike : (store : Store) (number : ℕ) (mains : List ℕ) → All (IsMain program) mains
       → AllAlike (SameAt store) Never (run.first_shreds src number mains)
@@ -705,7 +706,7 @@ module _ (program : Program) (fine : IsWellFormed program) (code : CodeParts)
   first_alike store number (f ∷ mains) all_main = (
     refl,
     refl,
-    inl (main_begins store.objects store.now (slice_get program.funs f) f number refl
+    inl (main_begins (shapes_of store) store.now (slice_get program.funs f) f number refl
         (All-head (IsMain program) f mains all_main)),
     first_alike store (suc number) mains (All-tail (IsMain program) f mains all_main),
   )

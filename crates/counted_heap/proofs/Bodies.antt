@@ -25,12 +25,12 @@ pub values-set : (b : Body) (i : ℕ) (v : Value) → i < length (values_of b)
     → values_of (with_values b (slice_set (values_of b) i v)) ≡ slice_set (values_of b) i v
 values-set (Instance class fields) i v within = refl
 values-set (Array elem two items) i v within = refl
-values-set (Ugen kind node) i v within = absurd (omega arith)
+values-set (Ugen node) i v within = absurd (omega arith)
 
 pub values-array : (b : Body) (vs : List Value) → IsArray b → values_of (with_values b vs) ≡ vs
 values-array (Instance class fields) vs array = absurd array
 values-array (Array elem two items) vs array = refl
-values-array (Ugen kind node) vs array = absurd array
+values-array (Ugen node) vs array = absurd array
 
 -- a write of a body
 module _ (old new : Cells) (next : ℕ) (at : Ref) (c d : Cell) (held : Holds old at c)

@@ -583,7 +583,7 @@ pub unit_added : (inside world : Parts) → inside ≡ world → (heap : Objects
     → graph ≡ record inside.graph {
       units = filled node (first_unit kind maker number) inside.graph.units;
     }
-    → MakesObject inside.heap (Ugen kind node) at heap
+    → MakesObject inside.heap (Ugen node) at heap
     → unit_made kind maker (store_of world) ≡ Gives (record {
       reference = ARef at.serial;
       store = store_of (record inside { heap = heap; graph = graph });
@@ -605,9 +605,9 @@ unit_added inside world same heap graph kind maker node number at first is_numbe
       units = inside.graph.units ++ Some (first_unit kind maker number) ∷ [];
     } = is_graph ∙ ap (λ (us : Units). record inside.graph { units = us }) end.is in
     subst (λ (w : Parts). unit_made kind maker (store_of w) ≡ with_it graph) same
-    (ap (λ k. added (UnitGenerator kind (length store.units)) (grown_by k)) is_next
-    ∙ ap (λ n. added (UnitGenerator kind n) (grown_by number)) (sym end.place)
-    ∙ added_so (grown_by number) inside.heap heap at (Ugen kind node) first made
+    (ap (λ k. added (UnitGenerator (length store.units)) (grown_by k)) is_next
+    ∙ ap (λ n. added (UnitGenerator n) (grown_by number)) (sym end.place)
+    ∙ added_so (grown_by number) inside.heap heap at (Ugen node) first made
     ∙ ap with_it (sym is_end))
 
 pub unit_given : (inside world : Parts) → inside ≡ world → (kind : UgenKind) (maker : ℕ)
@@ -619,7 +619,7 @@ unit_given inside world same kind maker first few =
     let unit = first_unit kind maker (suc (length store.objects)) in
     of_inside inside world same (λ s. IsGiven (unit_made kind maker s))
     (added_given (record store { units = store.units ++ Some unit ∷ [] }) inside.heap
-    (UnitGenerator kind (length store.units)) first few)
+    (UnitGenerator (length store.units)) first few)
 
 pub unit_refused : (inside world : Parts) → inside ≡ world → (kind : UgenKind) (maker : ℕ)
     → inside.heap.first ≡ 1 → MAX_OBJECTS < next inside.heap
@@ -630,4 +630,4 @@ unit_refused inside world same kind maker first many =
     let unit = first_unit kind maker (suc (length store.objects)) in
     of_inside inside world same (λ s. unit_made kind maker s ≡ Fails ObjectLimit)
     (added_not (record store { units = store.units ++ Some unit ∷ [] }) inside.heap
-    (UnitGenerator kind (length store.units)) first many)
+    (UnitGenerator (length store.units)) first many)

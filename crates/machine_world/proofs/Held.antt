@@ -42,7 +42,7 @@ taken_so bodies r n (Some (Instance class fields)) serial at fits = record {
   is = record { number = n; serial = serial; at = at };
 }
 taken_so bodies r n (Some (Array elem two items)) serial at fits = absurd fits
-taken_so bodies r n (Some (Ugen kind node)) serial at fits = absurd fits
+taken_so bodies r n (Some (Ugen node)) serial at fits = absurd fits
 
 referred_at : (bodies : List Body) (n : ℕ)
     → referred (map shown_body bodies) (ARef (suc n))

@@ -21,7 +21,7 @@ of_line : {A : Type 0} (P : Type 0) (o : Option Object) (go : Line → Try A)
     → ((line : Line) → IsFitting (go line) → P) → IsFitting (and_then (line_of o) go) → P
 of_line P None go on fits = absurd fits
 of_line P (Some (Instance class fields)) go on fits = absurd fits
-of_line P (Some (UnitGenerator kind place)) go on fits = absurd fits
+of_line P (Some (UnitGenerator place)) go on fits = absurd fits
 of_line P (Some (Items e b items)) go on fits =
     on (record { elem = e; of_arrays = b; items = items }) fits
 

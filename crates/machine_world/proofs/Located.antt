@@ -49,16 +49,15 @@ place_so bodies r n serial =
 
 -- what isn't null, and can be taken as a unit generator, is one
 pub record IsUnit (heap : Objects) (r : Ref) : Type 0 where
-  pub kind : UgenKind
   pub node : ℕ
-  pub is : object heap r ≡ Some (Ugen kind node)
+  pub is : object heap r ≡ Some (Ugen node)
 
 unit_so : (heap : Objects) (r : Ref) (o : Option Body) → object heap r ≡ o
     → IsFitting (place_of (option_map shown_body o)) → IsUnit heap r
 unit_so heap r None is fits = absurd fits
 unit_so heap r (Some (Instance class fields)) is fits = absurd fits
 unit_so heap r (Some (Array elem two items)) is fits = absurd fits
-unit_so heap r (Some (Ugen kind node)) is fits = record { kind = kind; node = node; is = is }
+unit_so heap r (Some (Ugen node)) is fits = record { node = node; is = is }
 
 unit_as : (heap : Objects) (r : Ref) (s : ℕ) → r.serial ≡ s → heap.first ≡ 1 → (s ≡ 0 → ⊥)
     → IsFitting (place_at (objects_of heap) (ARef r.serial)) → IsUnit heap r
@@ -72,11 +71,11 @@ pub held_unit : (heap : Objects) (r : Ref) → heap.first ≡ 1 → (r.serial �
 held_unit heap r first some fits = unit_as heap r r.serial refl first some fits
 
 -- and it is at its place
-pub unit_is : (heap : Objects) (r : Ref) (kind : UgenKind) (node : ℕ) → heap.first ≡ 1
-    → object heap r ≡ Some (Ugen kind node)
+pub unit_is : (heap : Objects) (r : Ref) (node : ℕ) → heap.first ≡ 1
+    → object heap r ≡ Some (Ugen node)
     → place_at (objects_of heap) (ARef r.serial) ≡ Gives node
-unit_is heap r kind node first here =
-    let at = is_at heap r (Ugen kind node) first here in
+unit_is heap r node first here =
+    let at = is_at heap r (Ugen node) first here in
     place_so heap.bodies r at.number at.serial ∙ ap (λ o. place_of (option_map shown_body o)) at.here
 
 -- steps on one unit generator -----------------------------------------------------------------------

@@ -35,7 +35,7 @@ fn node_of(heap: &Heap, at: Ref) -> Result<usize, Trap>
         return Err(Trap::NullPointer);
     }
     match heap.body(at) {
-        Body::Ugen { kind: _, node } => Ok(*node),
+        Body::Ugen { node } => Ok(*node),
         _ => unreachable!(),
     }
 }
@@ -66,7 +66,7 @@ impl World {
         }
         let node = self.graph.add(alloc, kind, maker, self.heap.made() + 1)?;
         // There is a number left for it, so that only memory can be wanting.
-        add_object(&mut self.heap, Body::Ugen { kind, node })
+        add_object(&mut self.heap, Body::Ugen { node })
     }
 
     /// Connects a unit generator to another, behind all connections; null is a trap, and so is a

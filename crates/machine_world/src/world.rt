@@ -32,7 +32,6 @@ use shred_state::add_first_values;
 use std::alloc::Global;
 use std::marker::Model;
 use ugen_graph::Graph;
-use ugen_names::UgenKind;
 use value_ops::{OpEnd, append, array, clear, fill, grid, has_item, item, row, set_item, size};
 
 /// What all shreds work on: the time in samples, the objects, the statics, the unit generators and
@@ -506,16 +505,8 @@ fn first_heap(alloc: Global) -> Result<Heap, Memory>
     ensures objects { IfOk result (λ heap. map shown_body heap.bodies ≡ first_objects) }
 {
     let mut heap = Heap::new(alloc, 1);
-    let output = Body::Ugen {
-        kind: UgenKind::Dac,
-        node: 0,
-    };
-    let hole = Body::Ugen {
-        kind: UgenKind::Blackhole,
-        node: 1,
-    };
-    add_first(&mut heap, output)?;
-    add_first(&mut heap, hole)?;
+    add_first(&mut heap, Body::Ugen { node: 0 })?;
+    add_first(&mut heap, Body::Ugen { node: 1 })?;
     Ok(heap)
 }
 

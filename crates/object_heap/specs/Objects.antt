@@ -39,19 +39,19 @@ MakesNone (Memory back) old body = (next old ≤ MAX_OBJECTS) × (back.value ≡
 abbrev pub values_of : Body → List Value
 values_of (Instance class fields) = fields
 values_of (Array elem two items) = items
-values_of (Ugen kind node) = []
+values_of (Ugen node) = []
 
 -- the body with other ones
 abbrev pub with_values : Body → List Value → Body
 with_values (Instance class fields) values = Instance class values
 with_values (Array elem two items) values = Array elem two values
-with_values (Ugen kind node) values = Ugen kind node
+with_values (Ugen node) values = Ugen node
 
 -- the body is an array's
 abbrev pub IsArray : Body → Type 0
 IsArray (Instance class fields) = ⊥
 IsArray (Array elem two items) = Unit {0}
-IsArray (Ugen kind node) = ⊥
+IsArray (Ugen node) = ⊥
 
 -- the objects with another body in the place of one
 abbrev pub with_body : Objects → Ref → Body → Objects

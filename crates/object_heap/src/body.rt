@@ -5,7 +5,6 @@ ghost use Rattle.object_heap.specs.Objects.{IsArray, values_of, with_values};
 use ck_base::List;
 use ck_values::{Elem, Value};
 use fixed_point::HandedBack;
-use ugen_names::UgenKind;
 
 /// What an object is made of.
 #[derive(Drop)]
@@ -24,9 +23,8 @@ pub enum Body {
         two: bool,
         items: List<Value>,
     },
-    /// A unit generator.
+    /// A unit generator, of which the graph has all else.
     Ugen {
-        kind: UgenKind,
         /// Its number in the graph, from 0.
         node: usize,
     },
@@ -44,7 +42,7 @@ impl Body {
                 two: _,
                 items,
             } => items.items(),
-            Body::Ugen { kind: _, node: _ } => &[],
+            Body::Ugen { node: _ } => &[],
         }
     }
 
@@ -61,7 +59,7 @@ impl Body {
                 two: _,
                 items,
             } => items.replace(index, v),
-            Body::Ugen { kind: _, node: _ } => v,
+            Body::Ugen { node: _ } => v,
         }
     }
 

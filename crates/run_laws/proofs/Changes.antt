@@ -180,9 +180,9 @@ unit_changes kind maker store =
     let unit = first_unit kind maker (suc (length store.objects)) in
     let more : Store = record store { units = store.units ++ Some unit ∷ [] } in
     given_more (Makes more) (Makes store)
-    (added (UnitGenerator kind (length store.units)) more)
+    (added (UnitGenerator (length store.units)) more)
     (λ made h. changes_trans store more made.store refl h)
-    (added_changes (UnitGenerator kind (length store.units)) more)
+    (added_changes (UnitGenerator (length store.units)) more)
 
 -- one is connected to another, or no longer
 pub connected_changes : (a b : Datum) (store : Store)

@@ -1,15 +1,12 @@
 -- The runs of a verified code are lawful: what fits goes on to fit, slice by slice.
-use Rattle.std.proofs.Common.{◌≡◌, ℕ, ◌≤◌, ◌≤ℤ◌, List, [], ◌∷◌, All, filter, length, take, refl, sym, subst, arith, slice_get}
+use Rattle.std.proofs.Common.{◌≡◌, ℕ, ◌≤◌, ◌≤ℤ◌, List, [], ◌∷◌, All, length, take, refl, sym, subst, arith, slice_get}
 use Rattle.std.proofs.lemmas.Int.{ints}
 use Rattle.std.proofs.lemmas.List.Elements.{All-nil, All-head, All-tail, All-weaker}
 use Rattle.ck_base.specs.declared.limits.TheConstants.{MAX_FILES, MAX_SAMPLES}
 use Rattle.ck_values.specs.Datum.{Datum}
-use Rattle.ugen_kinds.specs.SoundFile.{no_waves}
-use Rattle.ugen_sample.specs.Order.{roots}
-use Rattle.ugen_sample.specs.Sample.{sampled}
-use Rattle.ugen_sample.proofs.Origins.{origins_sampled}
-use Rattle.ck_store.specs.Store.{Object, Keeps, Store, State, Act, Printed, Sporked, WokeOne, WokeAll, Removed, Request, At, On, End, first_store}
-use Rattle.ck_store.specs.Steps.{resumed}
+use Rattle.ck_store.specs.Store.{Keeps, Store, State, Act, Printed, Sporked, WokeOne, WokeAll, Removed, Request, At, On, End, first_store, Shapes, shapes_of}
+use Rattle.ck_store.specs.Steps.{resumed, ticked}
+use Rattle.ck_store.specs.Graph.{sounded}
 use Rattle.ck_typed.specs.WellFormed.{FoundWhere}
 use Rattle.ck_code.specs.declared.code.Fun.{Fun}
 use Rattle.ck_code.specs.declared.code.CodeParts.{CodeParts}
@@ -17,15 +14,14 @@ use Rattle.ck_code.specs.Machine.{Halt, Ended, Waits, Broke, Unfinished, Stuck, 
 use Rattle.ck_code.specs.Verified.{Typing, params_of, IsVerified}
 use Rattle.ck_code.specs.Fitting.{Suit, IsFitStore, AreFit, IsFitAct, IsFitState, IsFitHalt, WhereItGoesOn}
 use Rattle.ck_code.proofs.Standing.{found_is, found_more, kept_same}
-use Rattle.ck_code.proofs.Placed.{IsWithin, graph_units, graph_connections, stay_on}
 use Rattle.ck_code.proofs.Frames.{frames_kept}
 use Rattle.ck_code.proofs.Runs.{first_store_fits, first_frames_fit, slice_fits}
 use Rattle.ck_run.specs.Run.{Stop, Asked, Trapped}
 use Rattle.ck_run.specs.Sound.{AllSporks, Goes, IsKept, IsLawful, BeginsFit}
-use Rattle.ck_run.proofs.Lists.{All-filter}
 use Rattle.ck_run.proofs.Settling.{StandsAt, run_stands}
 use Rattle.ck_meaning.specs.Replay.{Stopped, waiting, slice_left, slice_wrong, slice_with, first_frames, beginning, by_code, run_code}
 use Rattle.run_laws.specs.FitRuns.{turns_at, IsRunStore, IsFitShred}
+use Rattle.run_laws.proofs.RunStores.{cut_fits, sample_fits, sample_keeps}
 use Rattle.run_laws.proofs.Counted.{few_fresh, few_turns, IsCounted, HasFewTurns, slice_counted}
 
 -- what holds where a shred goes on holds where it is asked to
@@ -43,11 +39,11 @@ module _ (code : CodeParts) (verified : IsVerified code) where
   Fits store p = IsFitShred code typing store p
 
   -- it fits beside each store that comes later with all its objects
-  fits_kept : (before after : Store) (p : Stopped) → Keeps before.objects after.objects
+  fits_kept : (before after : Store) (p : Stopped) → Keeps (shapes_of before) (shapes_of after)
       → before.now ≤ℤ after.now → Fits before p → Fits after p
   fits_kept before after p kept later fits = record {
     main = fits.main;
-    frames = frames_kept code typing fits.main before.objects after.objects kept p.frames
+    frames = frames_kept code typing fits.main (shapes_of before) (shapes_of after) kept p.frames
         fits.frames;
     turns = fits.turns;
     last = omega (arith, ints, fits.last, later);
@@ -56,36 +52,36 @@ module _ (code : CodeParts) (verified : IsVerified code) where
   -- a shred begins with arguments that suit its function
   begin_fits : (store : Store) (f : ℕ) (arguments : List Datum) → IsFitStore code store
       → FoundWhere (slice_get code.funs f) (λ fn.
-      Suit code.classes store.objects (params_of fn) arguments)
+      Suit code.classes (shapes_of store) (params_of fn) arguments)
       → Fits store (beginning code f arguments)
   begin_fits store f arguments fit suits =
       let found = found_is (slice_get code.funs f) _ suits in
       record {
         main = f;
-        frames = subst (λ o. AreFit code typing f store.objects (first_frames o f arguments))
+        frames = subst (λ o. AreFit code typing f (shapes_of store) (first_frames o f arguments))
             (sym found.1)
-            (first_frames_fit code verified f found.0 store.objects arguments found.1 found.2);
+            (first_frames_fit code verified f found.0 (shapes_of store) arguments found.1 found.2);
         turns = few_fresh;
         last = omega (arith, ints, fit.begun);
       }
 
   -- so do the children that acts spork
   children_fit : (store : Store) (acts : List Act) → IsFitStore code store
-      → All (IsFitAct code store.objects) acts
+      → All (IsFitAct code (shapes_of store)) acts
       → AllSporks (λ f arguments. Fits store (beginning code f arguments)) acts
   children_fit store [] fit all = tt
   children_fit store (Sporked number f arguments ∷ acts) fit all = (
-    begin_fits store f arguments fit (All-head (IsFitAct code store.objects) _ acts all),
-    children_fit store acts fit (All-tail (IsFitAct code store.objects) _ acts all),
+    begin_fits store f arguments fit (All-head (IsFitAct code (shapes_of store)) _ acts all),
+    children_fit store acts fit (All-tail (IsFitAct code (shapes_of store)) _ acts all),
   )
   children_fit store (Printed line ∷ acts) fit all =
-      children_fit store acts fit (All-tail (IsFitAct code store.objects) _ acts all)
+      children_fit store acts fit (All-tail (IsFitAct code (shapes_of store)) _ acts all)
   children_fit store (WokeOne event ∷ acts) fit all =
-      children_fit store acts fit (All-tail (IsFitAct code store.objects) _ acts all)
+      children_fit store acts fit (All-tail (IsFitAct code (shapes_of store)) _ acts all)
   children_fit store (WokeAll event ∷ acts) fit all =
-      children_fit store acts fit (All-tail (IsFitAct code store.objects) _ acts all)
+      children_fit store acts fit (All-tail (IsFitAct code (shapes_of store)) _ acts all)
   children_fit store (Removed number ∷ acts) fit all =
-      children_fit store acts fit (All-tail (IsFitAct code store.objects) _ acts all)
+      children_fit store acts fit (All-tail (IsFitAct code (shapes_of store)) _ acts all)
 
   module _ (b : ℕ) (p : Stopped) (before : Store) where
     -- a slice began here
@@ -112,7 +108,7 @@ module _ (code : CodeParts) (verified : IsVerified code) where
       numbered = counted.numbered;
       sporks = counted.sporks;
       children = children_fit s.store s.acts state.store
-          (state.acts (All-nil (IsFitAct code before.objects)));
+          (state.acts (All-nil (IsFitAct code (shapes_of before))));
       goes = λ is. (goes is (counted.goes is).0, (counted.goes is).1);
     }
 
@@ -164,48 +160,20 @@ module _ (code : CodeParts) (verified : IsVerified code) where
     few_turns = λ p store now fits. few_turns now p fits.turns;
     few_sporks = λ store fit. fit.fits.sporks;
     first = λ store fit. fit.first;
-    cut = λ store keep fit. record {
-      fits = record {
-        objects = fit.fits.objects;
-        statics = fit.fits.statics;
-        graph = graph_connections store.objects store.units store.connections
-            (filter keep store.connections)
-            (All-filter (IsWithin store.units) (IsWithin store.units) keep (λ c is within. within)
-            store.connections fit.fits.graph.within)
-            fit.fits.graph;
-        begun = fit.fits.begun;
-        within = fit.fits.within;
-        sporks = fit.fits.sporks;
-        next_shred = fit.fits.next_shred;
-      };
-      first = fit.first;
-    };
+    cut = λ store keep fit.
+        record { fits = cut_fits code store keep fit.fits; first = fit.first };
     cut_fits = λ store keep p fits.
-        fits_kept store _ p (kept_same store.objects) (omega (arith, ints)) fits;
-    tick = λ store fit lt. record {
-      fits = record {
-        objects = fit.fits.objects;
-        statics = fit.fits.statics;
-        graph = graph_units store.objects store.units
-            (sampled no_waves roots store.connections store.units) store.connections
-            (stay_on store.units (sampled no_waves roots store.connections store.units)
-            (origins_sampled no_waves roots store.connections store.units)) fit.fits.graph;
-        begun = omega (arith, ints, fit.fits.begun);
-        within = omega (arith, ints, lt);
-        sporks = omega arith;
-        next_shred = omega (arith, ints, fit.fits.next_shred, fit.fits.sporks);
-      };
-      first = fit.first;
-    };
+        fits_kept store _ p (kept_same (shapes_of store)) (omega (arith, ints)) fits;
+    tick = λ store fit lt. record { fits = sample_fits code store lt fit.fits; first = fit.first };
     tick_fits = λ store p fits.
-        fits_kept store _ p (kept_same store.objects) (omega (arith, ints)) fits;
+        fits_kept store (ticked (sounded store)) p (sample_keeps store) (omega (arith, ints)) fits;
   }
 
   -- a main function takes nothing
-  main_suits : (objects : List Object) (fn : Fun) → fn.params ≡ 0
-      → Suit code.classes objects (params_of fn) []
-  main_suits objects fn none =
-      subst (λ n. Suit code.classes objects (take n fn.locals) []) (sym none) tt
+  main_suits : (shapes : Shapes) (fn : Fun) → fn.params ≡ 0
+      → Suit code.classes shapes (params_of fn) []
+  main_suits shapes fn none =
+      subst (λ n. Suit code.classes shapes (take n fn.locals) []) (sym none) tt
 
   -- its mains begin with what fits
   pub begins : length code.mains ≤ MAX_FILES
@@ -218,7 +186,7 @@ module _ (code : CodeParts) (verified : IsVerified code) where
         shreds = All-weaker (λ f. FoundWhere (slice_get code.funs f) (λ fn. fn.params ≡ 0))
             (λ f. Fits first (beginning code f []))
             (λ f main. begin_fits first f [] fit (found_more (slice_get code.funs f) _ _
-            (λ fn none. main_suits first.objects fn none) main)) code.mains verified.mains;
+            (λ fn none. main_suits (shapes_of first) fn none) main)) code.mains verified.mains;
       }
 
   -- so its run is sound at each sample

@@ -1,7 +1,7 @@
 -- When the stores and the shreds of a code's run fit the code.
 use Rattle.std.specs.Prelude.{ℕ, ◌≤◌, ℤ, ◌≤ℤ◌, int_lt}
 use Rattle.ck_base.specs.declared.limits.TheConstants.{FRESH_TURNS}
-use Rattle.ck_store.specs.Store.{Store}
+use Rattle.ck_store.specs.Store.{Store, shapes_of}
 use Rattle.ck_store.specs.Steps.{pick, fresh}
 use Rattle.ck_code.specs.declared.code.CodeParts.{CodeParts}
 use Rattle.ck_code.specs.Verified.{Typing}
@@ -22,6 +22,6 @@ pub record IsRunStore (code : CodeParts) (store : Store) : Type 0 where
 pub record IsFitShred (code : CodeParts) (typing : Typing) (store : Store) (shred : Stopped) :
     Type 0 where
   pub main : ℕ
-  pub frames : AreFit code typing main store.objects shred.frames
+  pub frames : AreFit code typing main (shapes_of store) shred.frames
   pub turns : shred.turns ≤ FRESH_TURNS
   pub last : shred.last ≤ℤ store.now

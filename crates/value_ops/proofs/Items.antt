@@ -118,7 +118,7 @@ held_so heap r None is fits = absurd fits
 held_so heap r (Some (Instance class fields)) is fits = absurd fits
 held_so heap r (Some (Array elem two items)) is fits =
     record { items = items; is = record { elem = elem; two = two; is = is } }
-held_so heap r (Some (Ugen kind node)) is fits = absurd fits
+held_so heap r (Some (Ugen node)) is fits = absurd fits
 
 held_as : (heap : Objects) (r : Ref) (s : ℕ) → r.serial ≡ s → heap.first ≡ 1 → (s ≡ 0 → ⊥)
     → IsFitting (array_at (objects_of heap) (ARef r.serial)) → Held heap r

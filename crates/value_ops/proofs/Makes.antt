@@ -131,7 +131,7 @@ array_of heap r None is fits = absurd fits
 array_of heap r (Some (Instance class fields)) is fits = absurd fits
 array_of heap r (Some (Array elem two items)) is fits =
     record { items = items; is = record { elem = elem; two = two; is = is } }
-array_of heap r (Some (Ugen kind node)) is fits = absurd fits
+array_of heap r (Some (Ugen node)) is fits = absurd fits
 
 pub held_array : (heap : Objects) (r : Ref) → IsSomeAnd (object heap r) IsArray → Held heap r
 held_array heap r fits = array_of heap r (object heap r) refl fits

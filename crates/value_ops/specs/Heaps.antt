@@ -13,7 +13,7 @@ use Rattle.object_heap.specs.declared.body.Body.TheVariants as body
 abbrev pub shown_body : Body → Object
 shown_body (body.Instance class fields) = Instance class (all_meant fields)
 shown_body (body.Array elem two items) = Items elem two (all_meant items)
-shown_body (body.Ugen kind node) = UnitGenerator kind node
+shown_body (body.Ugen node) = UnitGenerator node
 
 -- the objects of a heap
 abbrev pub objects_of : Objects → List Object

@@ -15,9 +15,9 @@ body-requires c =
 pub unreachable-requires : goal.unreachable-requires
 unreachable-requires c =
     let it = held_unit c.args.heap.now c.args.at c.requires.first c.if-at-eq0.false c.requires.unit in
-    c.in_default.not-Ugen it.kind it.node (cc)
+    c.in_default.not-Ugen it.node (cc)
 
 pub returns : goal.returns
 returns c =
-    unit_is c.args.heap.now c.args.at c.in-Ugen.kind c.in-Ugen.node c.requires.first
+    unit_is c.args.heap.now c.args.at c.in-Ugen.node c.requires.first
     (c.body.ensures ∙ ap Some c.in-Ugen.is)
