@@ -15,7 +15,7 @@ use Rattle.ck_code.proofs.Standing.{found_is}
 use Rattle.ck_code.proofs.Suiting.{suit_length}
 use Rattle.ck_code.proofs.Tables.{get_within}
 use Rattle.ck_store.specs.Steps.{fresh, resumed}
-use Rattle.ck_store.specs.Store.{Object, Store, State, Act, Printed, Sporked, WokeOne, WokeAll, Removed, Shapes, shapes_of}
+use Rattle.ck_store.specs.Store.{Store, State, Act, Printed, Sporked, WokeOne, WokeAll, Removed, Shapes, shapes_of}
 use Rattle.ck_meaning.specs.Replay.{Stopped, slice_with, first_frames, beginning, by_code}
 use Rattle.ck_run.specs.Run.{Shred}
 use Rattle.ck_run.specs.Sound.{AllSporks}
