@@ -8,7 +8,6 @@ use Rattle.ck_base.specs.declared.limits.TheConstants.{MAX_CONNECTIONS}
 use Rattle.ck_values.specs.declared.trap.Trap.TheVariants.{NullPointer, Connections}
 use Rattle.ugen_names.specs.declared.param.Param.{Param}
 use Rattle.ck_values.specs.declared.side.Side.TheVariants.{Both as OnBoth}
-use Rattle.ugen_names.specs.declared.table.UgenKind.{UgenKind}
 use Rattle.ck_values.specs.Datum.{Datum, ARef}
 use Rattle.ugen_kinds.specs.declared.generator.Generator.{Generator}
 use Rattle.ugen_kinds.specs.SoundFile.{no_waves}
