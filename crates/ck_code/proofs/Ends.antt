@@ -22,9 +22,10 @@ use Rattle.ck_code.specs.declared.code.CodeParts.{CodeParts}
 use Rattle.ck_code.specs.Machine.{Frame, frame, Effect, Next, Stops, Over, Breaks, Bad, tried, on_top, taken, text_at, with_fun, entered, returned, sporks_child, effect, steps_of, step_at, with_step, next_effect, Halt, Unfinished, go_on, exec, longest, enough}
 use Rattle.ck_code.specs.Verified.{JumpsTo, HasJump, HasTurnBetween, IsVerified}
 use Rattle.ck_code.specs.Fitting.{AreFit}
+use Rattle.ck_code.specs.Potential.{turn_of, steps, rank_at, ranks, greatest, potential}
 use Rattle.ck_code.proofs.Tables.{get_within}
 use Rattle.ck_code.proofs.Natives.{Given, KeepsRest, native_keeps}
-use Rattle.ck_code.proofs.Rank.{Between, between, turn_of, rank_of, rank_few, rank_some, rank_next, rank_jump}
+use Rattle.ck_code.proofs.Rank.{Between, between, rank_few, rank_some, rank_next, rank_jump}
 
 -- each function is as long as the longest at most
 longest_is : (funs : List Fun) (f : ℕ) → length (steps_of (slice_get funs f)) ≤ longest funs
@@ -93,39 +94,20 @@ start_less t R frames sum lt few le =
     let calls : frames * R ≤ 1_001 * R = mul-le-mul_right R (omega (arith, few)) in
     omega arith
 
--- the measure: it needs nothing but the code, the turns and the frames ------------------------------
-
 module _ (code : CodeParts) where
-  -- the steps of a function
-  abbrev pub steps : ℕ → List Step
-  steps f = steps_of (slice_get code.funs f)
-
-  -- the rank of a place of a function
-  abbrev pub rank_at : (f p : ℕ) → ℕ
-  rank_at f = rank_of (steps f)
-
-  -- the sum of the ranks of the frames' places
-  abbrev pub ranks : List Frame → ℕ
-  ranks [] = 0
-  ranks (top ∷ rest) = rank_at top.fun top.place + ranks rest
-
-  -- the greatest rank
-  abbrev pub greatest : ℕ
-  greatest = longest code.funs * suc (longest code.funs)
-
   -- no rank is greater
-  rank_at_few : (f p : ℕ) → rank_at f p ≤ greatest
+  rank_at_few : (f p : ℕ) → rank_at code f p ≤ greatest code
   rank_at_few f p =
-      let len = length (steps f) in
+      let len = length (steps code f) in
       let long = longest_is code.funs f in
-      let few = rank_few len (turn_of (steps f)) p in
+      let few = rank_few len (turn_of (steps code f)) p in
       let more : len * suc len ≤ longest code.funs * suc (longest code.funs) =
       mul-le-mul long (omega (arith, long)) in
       omega (arith, few, more)
 
-  -- the potential: what the turns are worth, and the ranks of the frames' places
-  abbrev pub potential : (turns : ℕ) → List Frame → ℕ
-  potential turns frames = turns * suc greatest + ranks frames
+  -- the potential as it is made
+  abbrev left : (turns : ℕ) → List Frame → ℕ
+  left turns frames = turns * suc (greatest code) + ranks code frames
 
 -- of a verified code ------------------------------------------------------------------------------
 
@@ -146,7 +128,7 @@ module _ (code : CodeParts) (verified : IsVerified code) where
 
   -- what it leads to has a potential below n
   abbrev pub Lowers : ℕ → Effect → Type 0
-  Lowers n (Next frames s) = potential code s.turns frames < n
+  Lowers n (Next frames s) = left code s.turns frames < n
   Lowers n _ = Unit {0}
 
   -- after a step that gives what is said
@@ -421,7 +403,7 @@ module _ (code : CodeParts) (verified : IsVerified code) where
   -- where there is an instruction
   step_lowers : (shred : ℕ) (top : Frame) (rest : List Frame) (s : State) (o : Option Step)
       → slice_get (steps code top.fun) top.place ≡ o
-      → Lowers (potential code s.turns (top ∷ rest))
+      → Lowers (left code s.turns (top ∷ rest))
       (with_step o (λ step.
       effect code shred step.instr step.place top.fun top.place top.locals top.operands rest s))
   step_lowers shred top rest s None at = tt
@@ -431,14 +413,22 @@ module _ (code : CodeParts) (verified : IsVerified code) where
 
   -- the next instruction
   pub next_effect_lowers : (shred : ℕ) (frames : List Frame) (s : State)
-      → Lowers (potential code s.turns frames) (next_effect code shred frames s)
+      → Lowers (left code s.turns frames) (next_effect code shred frames s)
   next_effect_lowers shred [] s = tt
   next_effect_lowers shred (top ∷ rest) s =
       step_lowers shred top rest s (step_at code top.fun top.place) refl
 
+  -- an instruction after which a slice goes on leaves a lower potential
+  pub leads_lower : (shred : ℕ) (frames frames1 : List Frame) (s s1 : State)
+      → next_effect code shred frames s ≡ Next frames1 s1
+      → potential code s1.turns frames1 < potential code s.turns frames
+  unfolding potential
+  leads_lower shred frames frames1 s s1 is =
+      subst (Lowers (left code s.turns frames)) is (next_effect_lowers shred frames s)
+
   -- a slice goes on with fewer instructions and a lower potential
   go_on_ends : (n k : ℕ) (e : Effect) (next : List Frame → State → Halt) → Lowers n e → n ≤ k
-      → ((frames : List Frame) (s : State) → potential code s.turns frames < k
+      → ((frames : List Frame) (s : State) → left code s.turns frames < k
       → next frames s ≡ Unfinished → ⊥) → go_on e next ≡ Unfinished → ⊥
   go_on_ends n k (Next frames s) next lower le after = after frames s (omega (arith, lower))
   go_on_ends n k (Stops q place frames s) next lower le after = λ e. cc
@@ -447,11 +437,11 @@ module _ (code : CodeParts) (verified : IsVerified code) where
   go_on_ends n k Bad next lower le after = λ e. cc
 
   -- a slice of more instructions than the potential ends
-  pub exec_ends : (shred k : ℕ) (frames : List Frame) (s : State) → potential code s.turns frames < k
+  pub exec_ends : (shred k : ℕ) (frames : List Frame) (s : State) → left code s.turns frames < k
       → exec code shred k frames s ≡ Unfinished → ⊥
   exec_ends shred zero frames s lt = absurd (omega (arith, lt))
   exec_ends shred (suc k) frames s lt =
-      go_on_ends (potential code s.turns frames) k (next_effect code shred frames s) (exec code shred k)
+      go_on_ends (left code s.turns frames) k (next_effect code shred frames s) (exec code shred k)
       (next_effect_lowers shred frames s) (omega (arith, lt)) (exec_ends shred k)
 
   -- the ranks code of so many frames

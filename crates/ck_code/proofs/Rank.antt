@@ -7,6 +7,7 @@ use Rattle.ck_typed.specs.WellFormed.{FoundWhere}
 use Rattle.ck_code.specs.declared.instr.Instr.{Instr}
 use Rattle.ck_code.specs.declared.instr.Instr.TheVariants.{Jump, JumpZero, Turn, Each}
 use Rattle.ck_code.specs.declared.code.Step.{Step}
+use Rattle.ck_code.specs.Potential.{is_inside, target, jump_of, ends_turn, is_turn, stays_out, all_stay_out, serves, sought, turn_to, turn_of, one_if, loops, rank, rank_of}
 use Rattle.ck_code.specs.Verified.{JumpsTo, HasJump, HasTurnBetween}
 use Rattle.ck_code.proofs.Standing.{where_found, same_found}
 
@@ -18,20 +19,11 @@ lt_or_le a b = go (nat_lt a b) refl
     go true e = inl (ltb-true a b e)
     go false e = inr (ltb-false a b e)
 
--- 1 for true and 0 for false
-abbrev one_if : Bool → ℕ
-one_if true = 1
-one_if false = 0
-
 -- of a test and of one that follows from it, the second counts no less
 one_le : (a b : Bool) → (a ≡ true → b ≡ true) → one_if a ≤ one_if b
 one_le true true h = omega arith
 one_le true false h = absurd (true≢false (sym (h refl)))
 one_le false b h = omega arith
-
--- a place is after the turn of a place that jumps back, and not past the jump
-abbrev is_inside : (q p x : ℕ) → Bool
-is_inside q p x = pick (nat_lt q x) (nat_lt x (suc p)) false
 
 -- what the test means
 inside_to : (q p x : ℕ) → is_inside q p x ≡ true → (q < x) × (x ≤ p)
@@ -51,34 +43,25 @@ outside : (q p x : ℕ) → x ≤ q → is_inside q p x ≡ false
 outside q p x le = ap (λ t. pick t (nat_lt x (suc p)) false) (le-ltb q x le)
 
 module _ (len : ℕ) (q : ℕ → ℕ) where
-  -- of the first n places, those that jump back over x with no turn between
-  abbrev loops : (n x : ℕ) → ℕ
-  loops zero x = 0
-  loops (suc n) x = one_if (is_inside (q n) n x) + loops n x
-
-  -- the rank of a place
-  abbrev pub rank : ℕ → ℕ
-  rank x = loops len x * len + (len - x)
-
   -- wherever one place is inside the other is
   abbrev Within : (x y : ℕ) → Type 0
   Within x y = (p : ℕ) → is_inside (q p) p y ≡ true → is_inside (q p) p x ≡ true
 
   -- no fewer jump back over it
-  loops_le : (n x y : ℕ) → Within x y → loops n y ≤ loops n x
+  loops_le : (n x y : ℕ) → Within x y → loops q n y ≤ loops q n x
   loops_le zero x y h = omega arith
   loops_le (suc n) x y h =
       omega (arith, one_le (is_inside (q n) n y) (is_inside (q n) n x) (h n), loops_le n x y h)
 
   -- more jump back over it, where one of them is inside and the other isn't
   loops_lt : (n x y p : ℕ) → p < n → is_inside (q p) p x ≡ true → is_inside (q p) p y ≡ false
-      → Within x y → suc (loops n y) ≤ loops n x
+      → Within x y → suc (loops q n y) ≤ loops q n x
   loops_lt zero x y p lt at_x at_y h = absurd (omega arith)
   loops_lt (suc n) x y p lt at_x at_y h =
       go (λ lt2. loops_lt n x y p lt2 at_x at_y h) (lt_or_le p n)
     where
-      go : (p < n → suc (loops n y) ≤ loops n x) → (p < n) ⊎ (n ≤ p)
-          → suc (loops (suc n) y) ≤ loops (suc n) x
+      go : (p < n → suc (loops q n y) ≤ loops q n x) → (p < n) ⊎ (n ≤ p)
+          → suc (loops q (suc n) y) ≤ loops q (suc n) x
       go less (inl below) =
           omega (arith, one_le (is_inside (q n) n y) (is_inside (q n) n x) (h n), less below)
       go less (inr le) =
@@ -90,79 +73,27 @@ module _ (len : ℕ) (q : ℕ → ℕ) where
           omega (arith, ex, ey, loops_le n x y h)
 
   -- no more than there are
-  loops_few : (n x : ℕ) → loops n x ≤ n
+  loops_few : (n x : ℕ) → loops q n x ≤ n
   loops_few zero x = omega arith
   loops_few (suc n) x = omega (arith, one_le (is_inside (q n) n x) true (λ e. refl), loops_few n x)
 
   -- the greatest rank
-  pub rank_few : (x : ℕ) → rank x ≤ len * len + len
+  pub rank_few : (x : ℕ) → rank len q x ≤ len * len + len
   rank_few x = let m = mul-le-mul_right len (loops_few len x) in omega (arith, m)
 
   -- a place of the function has a rank
-  pub rank_some : (x : ℕ) → x < len → 1 ≤ rank x
+  pub rank_some : (x : ℕ) → x < len → 1 ≤ rank len q x
   rank_some x lt = omega arith
 
   -- a step forward
-  rank_on : (x y : ℕ) → x < y → x < len → Within x y → rank y < rank x
+  rank_on : (x y : ℕ) → x < y → x < len → Within x y → rank len q y < rank len q x
   rank_on x y lt within h = let m = mul-le-mul_right len (loops_le len x y h) in omega (arith, m)
 
   -- a step back
   rank_back : (x y : ℕ) → x < len → is_inside (q x) x x ≡ true → is_inside (q x) x y ≡ false
-      → Within x y → rank y < rank x
+      → Within x y → rank len q y < rank len q x
   rank_back x y within at_x at_y h = let m =
       mul-le-mul_right len (loops_lt len x y x within at_x at_y h) in omega (arith, m)
-
--- the search for a turn --------------------------------------------------------------------------
-
--- where an instruction jumps
-abbrev target : Instr → Option ℕ
-target (Jump t) = Some t
-target (JumpZero t) = Some t
-target (Each t) = Some t
-target _ = None
-
--- where the step of a place jumps
-abbrev jump_of : Option Step → Option ℕ
-jump_of None = None
-jump_of (Some step) = target step.instr
-
-abbrev ends_turn : Instr → Bool
-ends_turn Turn = true
-ends_turn _ = false
-
--- a turn stands there
-abbrev is_turn : Option Step → Bool
-is_turn None = false
-is_turn (Some step) = ends_turn step.instr
-
--- a jump from a place doesn't come in after q up to p, or comes from the places q to p
-abbrev stays_out : (q p from : ℕ) → Option ℕ → Bool
-stays_out q p from None = true
-stays_out q p from (Some to) =
-    pick (is_inside q p to) (pick (nat_lt from q) false (nat_lt from (suc p))) true
-
--- none of these steps, which stand from a place on, comes in
-abbrev all_stay_out : (q p from : ℕ) → List Step → Bool
-all_stay_out q p from [] = true
-all_stay_out q p from (step ∷ steps) =
-    pick (stays_out q p from (target step.instr)) (all_stay_out q p (suc from) steps) false
-
--- place q is a turn that no jump passes by on the way to p
-abbrev serves : List Step → (p q : ℕ) → Bool
-serves steps p q = pick (is_turn (slice_get steps q)) (all_stay_out q p 0 steps) false
-
--- the first of so many places from q on that serves, and p where none does
-abbrev sought : List Step → (p left q : ℕ) → ℕ
-sought steps p zero q = p
-sought steps p (suc left) q = pick (serves steps p q) q (sought steps p left (suc q))
-
-abbrev turn_to : List Step → (p : ℕ) → Option ℕ → ℕ
-turn_to steps p None = p
-turn_to steps p (Some t) = sought steps p (p - t) t
-
--- the turn between a place that jumps back and where it jumps; the place itself, where it doesn't
-abbrev pub turn_of : List Step → (p : ℕ) → ℕ
-turn_of steps p = turn_to steps p (jump_of (slice_get steps p))
 
 -- what the search finds ----------------------------------------------------------------------------
 
@@ -374,10 +305,6 @@ module _ (steps : List Step) (turns : (p t : ℕ) → HasJump steps p t → t �
 
   pub between : (p : ℕ) → Between steps p (turn_of steps p)
   between p = between_to p (jump_of (slice_get steps p)) refl
-
--- the rank of a place of these steps
-abbrev pub rank_of : List Step → ℕ → ℕ
-rank_of steps x = rank (length steps) (turn_of steps) x
 
 module _ (steps : List Step) (between_at : (p : ℕ) → Between steps p (turn_of steps p)) where
   -- a place from the turn on that isn't a turn is after the turn

@@ -1,5 +1,5 @@
 -- Lines of instructions on ints, with the int on the top held apart.
-use Rattle.std.proofs.Common.{◌≡◌, ◌+◌, ◌-◌, ℕ, ℤ, suc, Bool, List, ◌∷◌, Some, IsSome, refl, sym, ap, ◌∙◌, subst, arith, slice_get}
+use Rattle.std.proofs.Common.{◌≡◌, ◌+◌, ◌-◌, ◌<◌, ℕ, ℤ, suc, Bool, List, ◌∷◌, Some, IsSome, refl, sym, ap, ◌∙◌, subst, arith, slice_get}
 use Rattle.ck_values.specs.declared.operator.Op2.{Op2 as Operator}
 use Rattle.ck_values.specs.declared.trap.Place.{Place}
 use Rattle.ck_values.specs.Datum.{Datum, AnInt}
@@ -12,6 +12,9 @@ use Rattle.ck_code.specs.declared.instr.Instr.{Instr}
 use Rattle.ck_code.specs.declared.instr.Instr.TheVariants.{Int, Local, SetLocal, OpLocal, UnitInt, Drop, Op2 as OnTwo, JumpZero, Return}
 use Rattle.ck_code.specs.Machine.{Effect, Next, tried, pushes, goes_to, returned, exec, begun, enough}
 use Rattle.ck_code.specs.Machine.{step_at, with_step, next_effect}
+use Rattle.ck_code.specs.Potential.{potential}
+use Rattle.ck_code.specs.Verified.{IsVerified}
+use Rattle.ck_code.proofs.Ends.{leads_lower}
 use Rattle.machine_world.specs.Shown.{Shown, frames_of, with_operands, with_locals, at_place}
 use Rattle.machine_world.specs.Steps.{IsGood, effect_in, of_two, updated}
 use Rattle.loop_steps.specs.Ints.{CanPut, PutsInt, HasUpdated, holding, run_from, begun_from, HasGoneOn}
@@ -48,11 +51,16 @@ module _ (code : CodeParts) (s s1 : Shown) (t t1 : State) (over : IsOver (run_fr
       begun_on code s.number (enough code) (frames_of s) (frames_of s1) t t1 leads.next over
       ∙ ap (λ n. suc (begun code n (enough code) (frames_of s1) t1)) (sym leads.number)
 
+  pub one_lower : IsVerified code
+      → potential code t1.turns (frames_of s1) < potential code t.turns (frames_of s)
+  one_lower verified =
+      leads_lower code verified s.number (frames_of s) (frames_of s1) t t1 leads.next
+
 -- a line that has gone on
-module _ (code : CodeParts) (ran line : ℕ) (first : Shown) (t0 : State) where
+module _ (code : CodeParts) (verified : IsVerified code) (ran line : ℕ) (first : Shown) (t0 : State) where
   pub none_on : IsOver (run_from code first t0)
       → HasGoneOn code ran line first t0 ran line first t0
-  none_on over = record { over = over; alike = refl; counts = refl; fewer = omega arith }
+  none_on over = record { over = over; alike = refl; counts = refl; lower = omega arith }
 
   -- by an instruction more
   pub one_on : (r k m : ℕ) (s s1 : Shown) (t t1 : State) → m ≡ k + 1
@@ -65,7 +73,7 @@ module _ (code : CodeParts) (ran line : ℕ) (first : Shown) (t0 : State) where
         over = subst IsOver (sym alike) gone.over;
         alike = alike ∙ gone.alike;
         counts = one_counted r k m _ _ is one ∙ gone.counts;
-        fewer = omega (arith, gone.fewer, one);
+        lower = omega (arith, gone.lower, one_lower code s s1 t t1 gone.over leads verified);
       }
 
   -- where it was counted another one begins at a place
@@ -76,7 +84,7 @@ module _ (code : CodeParts) (ran line : ℕ) (first : Shown) (t0 : State) where
     over = gone.over;
     alike = gone.alike;
     counts = line_counted r k r1 place _ is ∙ gone.counts;
-    fewer = gone.fewer;
+    lower = gone.lower;
   }
 
 module _ (code : CodeParts) where

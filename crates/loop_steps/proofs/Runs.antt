@@ -1,5 +1,5 @@
 -- Slices of at most so many instructions.
-use Rattle.std.proofs.Common.{◌≡◌, ◌≤◌, ◌+◌, ◌-◌, ℕ, zero, suc, List, [], ◌∷◌, Option, Some, None, IsSome, slice_get}
+use Rattle.std.proofs.Common.{◌≡◌, ◌<◌, ◌≤◌, ◌+◌, ◌-◌, ℕ, zero, suc, List, [], ◌∷◌, Option, Some, None, IsSome, slice_get}
 use Rattle.std.proofs.Common.{refl, sym, ap, ◌∙◌, subst, arith}
 use Rattle.ck_values.specs.declared.operator.Op2.{Op2 as Operator}
 use Rattle.ck_values.specs.declared.trap.Place.{Place}
@@ -12,6 +12,9 @@ use Rattle.ck_code.specs.declared.code.Step.{Step}
 use Rattle.ck_code.specs.Machine.{Frame, Effect, Next, Stops, Over, Breaks, Bad, replaces_two}
 use Rattle.ck_code.specs.Machine.{step_at, steps_of, with_step, next_effect, go_on}
 use Rattle.ck_code.specs.Machine.{exec, one_more, begun, enough}
+use Rattle.ck_code.specs.Potential.{potential}
+use Rattle.ck_code.specs.Verified.{IsVerified}
+use Rattle.ck_code.proofs.Ends.{leads_lower}
 use Rattle.shred_state.specs.Frames.{Standing}
 use Rattle.machine_world.specs.Acts.{all_acts_meant}
 use Rattle.machine_world.specs.Shown.{shown, frames_of}
@@ -142,17 +145,20 @@ has_fun code shred s over =
     some_fun (slice_get code.funs (shown shred).top.fun) (shown shred).top.place
     (has_step code (shown shred).number (enough code) shred s over)
 
--- a slice that is over is over one instruction on too, ends alike, and begins one fewer
+-- a slice that is over is over one instruction on too, ends alike, and begins one fewer; what it can do
+-- yet is less
 pub record OneOn (code : CodeParts) (shred shred1 : Standing) (s s1 : State) : Type 0 where
   pub over : IsOver (run_of code shred1 s1)
   pub alike : run_of code shred1 s1 ≡ run_of code shred s
   pub fewer : begun_by code shred s ≡ suc (begun_by code shred1 s1)
+  pub lower : potential code s1.turns (frames_of (shown shred1))
+      < potential code s.turns (frames_of (shown shred))
 
-pub one_on : (code : CodeParts) (shred shred1 : Standing) (s s1 : State)
+pub one_on : (code : CodeParts) → IsVerified code → (shred shred1 : Standing) (s s1 : State)
     → (shown shred1).number ≡ (shown shred).number
     → next_effect code (shown shred).number (frames_of (shown shred)) s ≡ Next (frames_of (shown shred1)) s1
     → IsOver (run_of code shred s) → OneOn code shred shred1 s s1
-one_on code shred shred1 s s1 number next over =
+one_on code verified shred shred1 s s1 number next over =
     let n = (shown shred).number in
     let k = enough code in
     let frames = frames_of (shown shred1) in
@@ -164,6 +170,7 @@ one_on code shred shred1 s s1 number next over =
       alike = alike;
       fewer = begun_on code n k (frames_of (shown shred)) frames s s1 next over
           ∙ ap (λ n. suc (begun code n k frames s1)) (sym number);
+      lower = leads_lower code verified n (frames_of (shown shred)) frames s s1 next;
     }
 
 -- one instruction more in the line that isn't counted yet

@@ -10,6 +10,7 @@ use Rattle.ck_code.specs.declared.instr.Instr.TheVariants.{Int, Local, Op2 as On
 use Rattle.ck_code.specs.declared.code.Step.{Step}
 use Rattle.ck_code.specs.declared.code.CodeParts.{CodeParts}
 use Rattle.ck_code.specs.Machine.{Halt, frame, exec, begun, enough}
+use Rattle.ck_code.specs.Potential.{potential}
 use Rattle.machine_world.specs.Shown.{Shown, frames_of}
 use Rattle.loop_steps.specs.Runs.{IsOver}
 use Rattle.machine_world.specs.Worlds.{counted}
@@ -54,11 +55,12 @@ abbrev pub begun_from : CodeParts → Shown → State → ℕ
 begun_from code s state = begun code s.number (enough code) (frames_of s) state
 
 -- some instructions later a slice is over too, and ends alike; of those that it begins so many were
--- counted before, so many stand in a line that isn't counted yet, and all come to the same count
+-- counted before, so many stand in a line that isn't counted yet, and all come to the same count; what
+-- it can do yet is no more
 pub record HasGoneOn (code : CodeParts) (ran line : ℕ) (old : Shown) (s : State)
     (ran1 line1 : ℕ) (new : Shown) (s1 : State) : Type 0 where
   pub over : IsOver (run_from code new s1)
   pub alike : run_from code new s1 ≡ run_from code old s
   pub counts : counted ran1 (line1 + begun_from code new s1)
       ≡ counted ran (line + begun_from code old s)
-  pub fewer : begun_from code new s1 ≤ begun_from code old s
+  pub lower : potential code s1.turns (frames_of new) ≤ potential code s.turns (frames_of old)

@@ -17,7 +17,7 @@ use Rattle.machine_world.specs.Shown.{Shown, shown, frames_of, with_operands, wi
 use Rattle.machine_world.specs.Worlds.{counted}
 use Rattle.machine_world.specs.Steps.{IsGood, IsRunnable, effect_in, state_of}
 use Rattle.machine_world.specs.Worlds.{store_of}
-use Rattle.loop_steps.proofs.OnInts.{LeadsTo, one_on, one_fewer, counted_on, effect_there, good_there, has_function}
+use Rattle.loop_steps.proofs.OnInts.{LeadsTo, one_on, one_lower, counted_on, effect_there, good_there, has_function}
 use Rattle.loop_steps.proofs.OnInts.{puts, operates, jumps, returns_to, sets, updates, counts_units, drops}
 use Rattle.loop_steps.proofs.OnInts.{local_fits, sum_fits, units_fit, operands_fit}
 use Rattle.machine_world.proofs.Runnable.{runnable_at}
@@ -72,7 +72,7 @@ gone_on : (c : After-step_in-at) (new : Shown)
     → LeadsTo c.args.code.now (now_of c) (state_now c) new (state_with c new.turns)
     → Gone c c.line.begun (c.line.here + 1 - c.line.from) new (state_with c new.turns)
 gone_on c new leads =
-    one_on c.args.code.now _ _ _ _ _ _ _ (now_of c) new (state_now c) _
+    one_on c.args.code.now c.parts-parts.ensures.verified _ _ _ _ _ _ _ (now_of c) new (state_now c) _
     (omega (arith, c.line.invariant.from)) c.line.invariant.gone leads
 
 -- an int as it is kept
@@ -119,7 +119,7 @@ returns-in-JumpZero-clause-gone c =
     (state_of c.args.shred.now c.args.world.now c.args.acts.now)
     c.counted_to.result (c.place_where.result - c.place_where.result) (shown c.jump.new.shred)
     (state_of c.jump.new.shred c.args.world.now c.args.acts.now)) (to_z-of_z w64 c.args.first (search rules))
-    (counted_on c.args.code.now _ _ _ _ _ _ _ _ _ _ (omega (arith, c.line.invariant.from, c.counted_to.ensures))
+    (counted_on c.args.code.now c.parts-parts.ensures.verified _ _ _ _ _ _ _ _ _ _ (omega (arith, c.line.invariant.from, c.counted_to.ensures))
     (gone_on here _ (jumped_on here _ c.in-JumpZero.to c.is_zero.result c.in-JumpZero.is
     c.is_zero.ensures goes)))
 
@@ -160,8 +160,8 @@ pub line-smaller-in-Op2-1 : goal.line-smaller-in-Op2-1
 line-smaller-in-Op2-1 c =
     omega (
       arith,
-      one_fewer c.args.code.now _ _ _ _ c.line.invariant.gone.over
-          (taken_on (goal.at.line-smaller-in-Op2-1 c).In-Some),
+      one_lower c.args.code.now _ _ _ _ c.line.invariant.gone.over
+          (taken_on (goal.at.line-smaller-in-Op2-1 c).In-Some) c.parts-parts.ensures.verified,
     )
 
 pub line-preserved-in-Op2-1 : goal.line-preserved-in-Op2-1
@@ -253,8 +253,8 @@ line-smaller-in-Some-operated_at c =
     let mid = gone_on (both here) (mid_of here) (first_on here) in
     omega (
       arith,
-      one_fewer c.args.code.now _ _ _ _ c.line.invariant.gone.over (first_on here),
-      one_fewer c.args.code.now _ _ _ _ mid.over (second_on here),
+      one_lower c.args.code.now _ _ _ _ c.line.invariant.gone.over (first_on here) c.parts-parts.ensures.verified,
+      one_lower c.args.code.now _ _ _ _ mid.over (second_on here) c.parts-parts.ensures.verified,
     )
 
 pub line-preserved-in-Some-operated_at : goal.line-preserved-in-Some-operated_at
@@ -265,7 +265,7 @@ line-preserved-in-Some-operated_at c =
     record {
       steps = before.steps;
       from = omega (arith, before.from);
-      gone = one_on c.args.code.now _ _ _ _ _ _ _ (mid_of here) _ (state_now (both here)) _
+      gone = one_on c.args.code.now c.parts-parts.ensures.verified _ _ _ _ _ _ _ (mid_of here) _ (state_now (both here)) _
           (omega (arith, before.from)) mid (second_on here);
       fun = before.fun;
       same = before.same;
@@ -304,8 +304,8 @@ pub line-smaller : goal.line-smaller
 line-smaller c =
     omega (
       arith,
-      one_fewer c.args.code.now _ _ _ _ c.line.invariant.gone.over
-          (over_on (goal.at.line-smaller c).In_ok-push-in-Int),
+      one_lower c.args.code.now _ _ _ _ c.line.invariant.gone.over
+          (over_on (goal.at.line-smaller c).In_ok-push-in-Int) c.parts-parts.ensures.verified,
     )
 
 pub line-preserved : goal.line-preserved
@@ -413,9 +413,9 @@ line-smaller-in-SetLocal-1 c =
     let here = (goal.at.line-smaller-in-SetLocal-1 c).After-step_in-at in
     omega (
       arith,
-      one_fewer c.args.code.now _ _ _ _ c.line.invariant.gone.over
+      one_lower c.args.code.now _ _ _ _ c.line.invariant.gone.over
           (set_on here (shown c.set_local.new.shred) c.in-SetLocal.i c.in-SetLocal.is
-          c.set_local.ensures.set c.set_local.ensures.kept),
+          c.set_local.ensures.set c.set_local.ensures.kept) c.parts-parts.ensures.verified,
     )
 
 pub line-preserved-in-SetLocal-1 : goal.line-preserved-in-SetLocal-1
@@ -480,8 +480,8 @@ pub line-smaller-in-OpLocal-1 : goal.line-smaller-in-OpLocal-1
 line-smaller-in-OpLocal-1 c =
     omega (
       arith,
-      one_fewer c.args.code.now _ _ _ _ c.line.invariant.gone.over
-          (sum_on (goal.at.line-smaller-in-OpLocal-1 c).In-Some-added),
+      one_lower c.args.code.now _ _ _ _ c.line.invariant.gone.over
+          (sum_on (goal.at.line-smaller-in-OpLocal-1 c).In-Some-added) c.parts-parts.ensures.verified,
     )
 
 pub line-preserved-in-OpLocal-1 : goal.line-preserved-in-OpLocal-1
@@ -524,8 +524,8 @@ steps_at-steps-requires c =
 
 pub line-smaller-in-Return-1 : goal.line-smaller-in-Return-1
 line-smaller-in-Return-1 c =
-    let one = one_fewer c.args.code.now _ _ _ _ c.line.invariant.gone.over
-    (return_on (goal.at.line-smaller-in-Return-1 c).After-counted_to-in-Return) in
+    let one = one_lower c.args.code.now _ _ _ _ c.line.invariant.gone.over
+    (return_on (goal.at.line-smaller-in-Return-1 c).After-counted_to-in-Return) c.parts-parts.ensures.verified in
     rw c.place.ensures (omega (arith, one))
 
 pub line-preserved-in-Return-1 : goal.line-preserved-in-Return-1
@@ -546,7 +546,7 @@ line-preserved-in-Return-1 c =
       from = omega arith;
       gone = subst (λ p. Gone here ran (p - p) (holding new (held here) p) (state_with here new.turns))
           (sym c.place.ensures)
-          (counted_on c.args.code.now _ _ _ _ _ _ _ new.top.place _ _ is
+          (counted_on c.args.code.now c.parts-parts.ensures.verified _ _ _ _ _ _ _ new.top.place _ _ is
           (gone_on here _ (return_on there)));
       fun = tt;
       same = record {

@@ -1,9 +1,10 @@
 use Rattle.std.proofs.Common.{◌≡◌, ◌≤◌, ◌-◌, slice_get}
 use Rattle.std.specs.Bool.{OnFalse}
 use Rattle.ck_code.specs.Machine.{steps_of}
-use Rattle.machine_world.specs.Shown.{shown}
+use Rattle.ck_code.specs.Potential.{potential}
+use Rattle.machine_world.specs.Shown.{shown, frames_of}
 use Rattle.machine_world.specs.Steps.{state_of, IsSame}
-use Rattle.loop_steps.specs.Ints.{holding, begun_from, HasGoneOn}
+use Rattle.loop_steps.specs.Ints.{holding, HasGoneOn}
 use Rattle.loop_steps.proofs.ints.go_on_with_int.Given as goal
 
 abbrev pub invariant-line : goal.invariant-line
@@ -22,5 +23,4 @@ invariant-line l =
 
 abbrev pub decreases-line : goal.decreases-line
 decreases-line l =
-    let now = holding (shown l.shred) l.top l.here in
-    begun_from l.code now (state_of l.shred l.world l.acts)
+    potential l.code (shown l.shred).turns (frames_of (holding (shown l.shred) l.top l.here))

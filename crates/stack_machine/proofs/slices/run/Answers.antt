@@ -21,7 +21,7 @@ use Rattle.stack_machine.proofs.Stops.{follows_as, stays_as}
 use Rattle.loop_steps.proofs.Runs.{OneOn, one_on, counted_ahead, counted_apart, counted_twice}
 use Rattle.stack_machine.proofs.Stops.{begun_one}
 use Rattle.stack_machine.proofs.Stops.{stops}
-use Rattle.loop_steps.proofs.OnInts.{LeadsTo, alike_on, one_fewer, effect_there, puts}
+use Rattle.loop_steps.proofs.OnInts.{LeadsTo, alike_on, one_fewer, one_lower, effect_there, puts}
 use Rattle.stack_machine.proofs.slices.run.Goals.{After-step_in-at, In-Some, In_ok-step}
 use Rattle.stack_machine.proofs.slices.run.Goals as goal
 
@@ -67,7 +67,8 @@ from_there : (c : In_ok-step)
     (state_of c.run.shred c.run.world c.run.acts)
     (state_of c.step.new.shred c.step.new.world c.step.new.acts)
 from_there c on =
-    one_on c.args.code.now c.run.shred c.step.new.shred _ _ c.in_ok-step.ensures.same.number on
+    one_on c.args.code.now c.parts-parts.ensures.verified c.run.shred c.step.new.shred _ _
+    c.in_ok-step.ensures.same.number on
     c.run.invariant.over
 
 -- an int is put on the top
@@ -105,9 +106,9 @@ steps_at-steps-requires-then-branch c =
 
 pub run-smaller-then-branch : goal.run-smaller-then-branch
 run-smaller-then-branch c =
-    let one = one_fewer c.args.code.now _ _ _ _ c.run.invariant.over
-    (int_on (goal.at.run-smaller-then-branch c).In-Some) in
-    omega (arith, one, c.in_ok-go_on_with_int.ensures.gone.fewer)
+    let one = one_lower c.args.code.now _ _ _ _ c.run.invariant.over
+    (int_on (goal.at.run-smaller-then-branch c).In-Some) c.parts-parts.ensures.verified in
+    omega (arith, one, c.in_ok-go_on_with_int.ensures.gone.lower)
 
 pub run-preserved-then-branch : goal.run-preserved-then-branch
 run-preserved-then-branch c =
@@ -137,9 +138,9 @@ run-preserved-then-branch c =
 
 pub run-smaller-else-branch : goal.run-smaller-else-branch
 run-smaller-else-branch c =
-    let one = one_fewer c.args.code.now _ _ _ _ c.run.invariant.over
-    (int_on (goal.at.run-smaller-else-branch c).In-Some) in
-    omega (arith, one, c.in_ok-go_on_with_int.ensures.gone.fewer)
+    let one = one_lower c.args.code.now _ _ _ _ c.run.invariant.over
+    (int_on (goal.at.run-smaller-else-branch c).In-Some) c.parts-parts.ensures.verified in
+    omega (arith, one, c.in_ok-go_on_with_int.ensures.gone.lower)
 
 pub run-preserved-else-branch : goal.run-preserved-else-branch
 run-preserved-else-branch c =
@@ -207,7 +208,7 @@ run-smaller-in-Ahead c =
     omega (
       arith,
       (from_there there (followed there GoesOn (ap (λ course. joined course
-          c.step.new.stop) c.in-Ahead.is))).fewer,
+          c.step.new.stop) c.in-Ahead.is))).lower,
     )
 
 pub run-preserved-in-Ahead : goal.run-preserved-in-Ahead
@@ -243,7 +244,7 @@ run-smaller-in-Apart c =
     omega (
       arith,
       (from_there there (followed there GoesOn (ap (λ course. joined course
-          c.step.new.stop) c.in-Apart.is))).fewer,
+          c.step.new.stop) c.in-Apart.is))).lower,
     )
 
 pub run-preserved-in-Apart : goal.run-preserved-in-Apart
@@ -274,7 +275,7 @@ run-preserved-in-Apart c =
 pub run-smaller : goal.run-smaller
 run-smaller c =
     let there = (goal.at.run-smaller c).In_ok-step in
-    omega (arith, (from_there there (followed there Moves (ap (λ course. joined course c.step.new.stop) c.in-Elsewhere.is))).fewer)
+    omega (arith, (from_there there (followed there Moves (ap (λ course. joined course c.step.new.stop) c.in-Elsewhere.is))).lower)
 
 pub run-preserved : goal.run-preserved
 run-preserved c =

@@ -1,6 +1,7 @@
 use Rattle.std.proofs.Common.{◌≡◌, ◌≤◌, ◌+◌, ◌-◌, slice_get}
 use Rattle.ck_code.specs.Machine.{steps_of}
-use Rattle.machine_world.specs.Shown.{shown}
+use Rattle.ck_code.specs.Potential.{potential}
+use Rattle.machine_world.specs.Shown.{shown, frames_of}
 use Rattle.machine_world.specs.Steps.{state_of, IsSame}
 use Rattle.loop_steps.specs.Runs.{IsOver, run_of, begun_by}
 use Rattle.machine_world.specs.Worlds.{counted}
@@ -23,4 +24,4 @@ invariant-run l =
     }
 
 abbrev pub decreases-run : goal.decreases-run
-decreases-run l = begun_by l.code l.shred (state_of l.shred l.world l.acts)
+decreases-run l = potential l.code (shown l.shred).turns (frames_of (shown l.shred))
