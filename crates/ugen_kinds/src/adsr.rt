@@ -39,6 +39,7 @@ impl Adsr {
     }
 
     /// One tick with this input.
+    #[inline(always)]
     pub(crate) fn tick(&mut self, x: Fix) -> Fix
         ensures { (self.new, result) ≡ adsr_tick self.old x }
     {

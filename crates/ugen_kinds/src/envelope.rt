@@ -29,6 +29,7 @@ impl Envelope {
     }
 
     /// One tick with this input.
+    #[inline(always)]
     pub(crate) fn tick(&mut self, x: Fix) -> Fix
         ensures { (self.new, result) ≡ envelope_tick self.old x }
     {

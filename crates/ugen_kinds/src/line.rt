@@ -82,6 +82,7 @@ impl Line {
     }
 
     /// One tick with this input.
+    #[inline(always)]
     pub(crate) fn tick(&mut self, x: Fix) -> Fix
         ensures { (self.new, result) ≡ delay_tick self.old x }
     {

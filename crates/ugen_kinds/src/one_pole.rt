@@ -43,6 +43,7 @@ impl OnePole {
         self.a1 = pole.neg();
     }
 
+    #[inline(always)]
     pub(crate) fn tick(&mut self, x: Fix) -> Fix
         ensures { (self.new, result) ≡ one_pole_tick self.old x }
     {

@@ -49,6 +49,7 @@ impl OneZero {
     }
 
     /// One tick with this input.
+    #[inline(always)]
     pub(crate) fn tick(&mut self, x: Fix) -> Fix
         ensures { (self.new, result) ≡ one_zero_tick self.old x }
     {

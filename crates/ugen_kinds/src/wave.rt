@@ -44,25 +44,28 @@ impl Wave {
     }
 
     /// One tick with this input, which is 0 where there is no source.
+    #[inline(always)]
     pub(crate) fn tick(&mut self, x: Fix, fed: bool) -> Fix
         ensures { (self.new, result) ≡ wave_tick self.old x fed }
     {
-        match self.sync {
-            Sync::Modulation => self.go_on(self.frequency.add(x)),
+        let frequency = match self.sync {
+            Sync::Modulation => self.frequency.add(x),
             Sync::Phase if fed => {
                 self.phase = phase_of(x.raw());
-                height(self.form, self.width, self.phase)
+                return height(self.form, self.width, self.phase);
             }
             Sync::Frequency | Sync::Phase => {
                 if fed {
                     self.frequency = x;
                 }
-                self.go_on(self.frequency)
+                self.frequency
             }
-        }
+        };
+        self.go_on(frequency)
     }
 
     /// The output at the phase, which then goes on by a step at this frequency.
+    #[inline(always)]
     fn go_on(&mut self, frequency: Fix) -> Fix
         ensures { (self.new, result) ≡ goes_on frequency self.old }
     {

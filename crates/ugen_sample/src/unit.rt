@@ -61,6 +61,20 @@ impl UnitState {
         ensures { self.new
             ≡ gives self.old (result_of no_waves self.old.joining self.old.generator x fed) }
     {
+        if self.joining == Joining::Sum {
+            let y = self.generator.tick(x, fed);
+            self.give(y);
+        } else {
+            self.sound_joined(x, fed);
+        }
+    }
+
+    /// The same, however it joins its sources: mostly it gives their sum to its tick.
+    #[inline(never)]
+    pub fn sound_joined(&mut self, x: Fix, fed: bool)
+        ensures { self.new
+            ≡ gives self.old (result_of no_waves self.old.joining self.old.generator x fed) }
+    {
         let y = match self.joining {
             Joining::Off => Output::both(Fix::from_raw(0)),
             Joining::Through => Output::both(x),

@@ -14,17 +14,8 @@ returns-then-right-mine c =
 pub returns-else-left-mine : goal.returns-else-left-mine
 returns-else-left-mine c = turn_sides _ _ _ _ _ _ c.if-n-eq0.true c.sound_dac.ensures
 
-pub returns-then-is_empty : goal.returns-then-is_empty
-returns-then-is_empty c =
-    let f = c.if-n-eq0.false in
-    let other : nat_eq c.args.n 0 ≡ false = grind (arith, nat_tests) in
-    turn_other c.args.sources.now c.args.left.now c.args.right.now _ c.index-sources-n.result
-    c.args.nodes.now c.sound_alone.new.nodes c.args.n other (rw c.requires.count c.requires.node)
-    (none_is _ c.if-is_empty.ensures ∙ c.nodes-mine.ensures ∙ c.index-sources-n.is)
-    c.sound_alone.ensures
-
-pub returns-else-is_empty : goal.returns-else-is_empty
-returns-else-is_empty c =
+pub returns-else-n-eq0 : goal.returns-else-n-eq0
+returns-else-n-eq0 c =
     let f = c.if-n-eq0.false in
     let other : nat_eq c.args.n 0 ≡ false = grind (arith, nat_tests) in
     turn_other c.args.sources.now c.args.left.now c.args.right.now _ c.index-sources-n.result
