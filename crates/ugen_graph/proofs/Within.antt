@@ -1,5 +1,5 @@
 -- What the graph names is among its nodes.
-use Rattle.std.proofs.Common.{◌≡◌, ℕ, zero, suc, ◌<◌, ◌≤◌, ◌||◌, ◌&&◌, Bool, nat_eq, cond, true, false, List, [], ◌∷◌, ◌++◌, length, map, slice_index_or, refl, ap, ◌∙◌, inl, inr, arith}
+use Rattle.std.proofs.Common.{◌≡◌, ℕ, zero, suc, ◌<◌, ◌≤◌, ◌||◌, ◌&&◌, Bool, nat_eq, cond, true, false, List, [], ◌∷◌, ◌++◌, length, map, slice_index_or, refl, ap, subst, ◌∙◌, inl, inr, arith}
 use Rattle.std.specs.List.{All, filter}
 use Rattle.std.proofs.lemmas.List.{get_or_default}
 use Rattle.ugen_sample.specs.Connection.{Connection}
@@ -122,3 +122,40 @@ pub hand_all : (test : Side → Bool) (cs : List Connection) (sources : List (Li
     → slice_index_or sources dac [] ≡ sources_of cs dac
     → IsAllOf some (slice_index_or sources dac [])
 hand_all test cs sources some is e = rw (is, e) (side_all test cs dac)
+
+-- a source on a side is a source
+side_below : (test : Side → Bool) (cs : List Connection) (n size : ℕ)
+    → Below size (sources_of cs n) → Below size (sources_by test cs n)
+side_below test [] n size = λ e. tt
+side_below test (c ∷ cs) n size =
+    let T : Connection → Bool = λ d. nat_eq d.to n && test d.side in
+    let U : Connection → Bool = λ d. nat_eq d.to n in
+    elim (nat_eq c.to n) as (λ b. Below size (starts (cond b (c ∷ filter U cs) (filter U cs)))
+    → Below size (starts (cond (b && test c.side) (c ∷ filter T cs) (filter T cs)))) [
+      | true ↦
+          elim (test c.side) as (λ b. Below size (c.from ∷ starts (filter U cs))
+          → Below size (starts (cond b (c ∷ filter T cs) (filter T cs)))) [
+            | true ↦ λ e. (e.0, side_below test cs n size e.1)
+            | false ↦ λ e. side_below test cs n size e.1
+          ]
+      | false ↦ λ e. side_below test cs n size e
+    ]
+
+each_below : (size : ℕ) (ms : List ℕ) → All (λ m. m < size) ms → Below size ms
+each_below size [] h = tt
+each_below size (m ∷ ms) h =
+    (h 0 m (omega arith), each_below size ms (λ k d b. h (suc k) d (omega arith)))
+
+dac_below : (size : ℕ) (sources : List (List ℕ)) → AreWithin size sources
+    → Below size (slice_index_or sources dac [])
+dac_below size [] h = tt
+dac_below size (ms ∷ rest) h = each_below size ms (h 0 [] (omega arith))
+
+-- so those of `dac` on a side are nodes
+pub side_within : (test : Side → Bool) (cs : List Connection) (sources : List (List ℕ))
+    (some : List ℕ) (size : ℕ) → some ≡ sources_by test cs dac
+    → slice_index_or sources dac [] ≡ sources_of cs dac → AreWithin size sources
+    → All (λ m. m < size) some
+side_within test cs sources some size is e within =
+    rw is (all_below size _ (side_below test cs dac size
+    (subst (λ (ms : List ℕ). Below size ms) e (dac_below size sources within))))

@@ -9,6 +9,7 @@ ghost use Rattle.ck_base.specs.declared.limits.TheConstants.{MAX_CONNECTIONS};
 ghost use Rattle.ugen_sample.specs.Order.{order, roots, sources_of};
 ghost use Rattle.ugen_sample.specs.Sample.{sources_by, is_left, is_right, dac};
 ghost use Rattle.ugen_graph.specs.declared.link.ConnectEnd.TheVariants.{Connections};
+ghost use Rattle.ugen_graph.specs.Walks.{AreWithin};
 ghost use Rattle.ugen_graph.specs.Wiring.{connections_of, found};
 
 use crate::link::{ConnectEnd, Link};
@@ -166,6 +167,7 @@ impl Wires {
             ≡ sources_of (connections_of self.now.links) n }
         ensures within { All (λ n. n < self.now.size)
             (order roots (connections_of self.now.links)) }
+        ensures sources_within { AreWithin self.now.size result.now }
     {
         self.sources.as_slice()
     }

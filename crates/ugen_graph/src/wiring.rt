@@ -10,6 +10,7 @@ ghost use Rattle.ugen_sample.specs.declared.choices.Channel.TheVariants.{Left, R
 ghost use Rattle.ugen_sample.specs.Order.{order, roots, sources_of};
 ghost use Rattle.ugen_sample.specs.Sample.{sources_on, dac};
 ghost use Rattle.ugen_graph.specs.declared.link.ConnectEnd.TheVariants.{Connections};
+ghost use Rattle.ugen_graph.specs.Walks.{AreWithin};
 ghost use Rattle.ugen_graph.specs.Wiring.{connections_of};
 
 use crate::link::{ConnectEnd, Link};
@@ -116,6 +117,7 @@ impl Wiring {
             ≡ sources_of (connections_of self.now.links) n }
         ensures within { All (λ n. n < self.now.size)
             (order roots (connections_of self.now.links)) }
+        ensures sources_within { AreWithin self.now.size result.now }
     {
         self.wires.sources()
     }

@@ -4,7 +4,7 @@ use Rattle.ugen_graph.specs.Wiring.{connections_of}
 use Rattle.ugen_graph.proofs.Earliest.{beside}
 use Rattle.ugen_graph.proofs.Sounds.{sample_is}
 use Rattle.ugen_sample.specs.Sample.{dac, is_left, is_right}
-use Rattle.ugen_graph.proofs.Within.{hand_all}
+use Rattle.ugen_graph.proofs.Within.{hand_all, side_within}
 use Rattle.ugen_graph.proofs.Ticks.{whole}
 use Rattle.ugen_graph.proofs.graph.Graph.sound.Goals as goal
 
@@ -19,6 +19,20 @@ sound_all-requires-clause-all_right c =
     hand_all is_right (connections_of c.self.inside.wiring.links) c.sources.result.now
     c.right.result.now c.right.ensures
     (c.sources.ensures.wired dac)
+
+pub sound_all-requires-clause-left : goal.sound_all-requires-clause-left
+sound_all-requires-clause-left c =
+    rw (c.deref_mut.ensures.len, c.self.invariant.wired)
+    (side_within is_left (connections_of c.self.inside.wiring.links) c.sources.result.now
+    c.left.result.now _ c.left.ensures (c.sources.ensures.wired dac)
+    c.sources.ensures.sources_within)
+
+pub sound_all-requires-clause-right : goal.sound_all-requires-clause-right
+sound_all-requires-clause-right c =
+    rw (c.deref_mut.ensures.len, c.self.invariant.wired)
+    (side_within is_right (connections_of c.self.inside.wiring.links) c.sources.result.now
+    c.right.result.now _ c.right.ensures (c.sources.ensures.wired dac)
+    c.sources.ensures.sources_within)
 
 pub returns : goal.returns
 returns c =
