@@ -1,6 +1,5 @@
 -- What one node makes, in the list of all.
 use Rattle.std.proofs.Common.{◌≡◌, ◌≢◌, ℕ, ℤ, pos, ◌<◌, Bool, true, false, not, ◌==◌, nat_eq, List, [], ◌∷◌, length, map, Option, Some, None, IfSome, IsSomeAnd, nat_lt, ◌≤◌, slice_index_or, slice_set, refl, ap, sym, subst, ◌∙◌, inl, inr, arith}
-use Rattle.std.specs.List.{fold}
 use Rattle.std.proofs.lemmas.List.{get_or_default, get_or_past}
 use Rattle.std.proofs.lemmas.Option.{same_Some}
 use Rattle.std.proofs.lemmas.Bool.Decides.{nat_tests}
@@ -11,8 +10,8 @@ use Rattle.ugen_sample.specs.declared.choices.Channel.TheVariants.{Mean, Left, R
 use Rattle.ugen_sample.specs.declared.unit.UnitState.{UnitState}
 use Rattle.ugen_sample.specs.Connection.{Connection}
 use Rattle.ugen_sample.specs.UnitState.{Units, unit_at}
-use Rattle.ugen_sample.specs.Order.{order, roots, sources_of}
-use Rattle.ugen_sample.specs.Sample.{dac, is_fed, input_of, both_heard, result_of, gives, sounded, sounded_where, numbers_of, sources_on, made_from, sampled}
+use Rattle.ugen_sample.specs.Order.{sources_of}
+use Rattle.ugen_sample.specs.Sample.{dac, is_fed, input_of, both_heard, result_of, gives, sounded, sounded_where, numbers_of, sources_on, made_from}
 use Rattle.ugen_sample.proofs.Among.{either, equal}
 use Rattle.ugen_graph.specs.Hands.{at_hand, sides, IsAllOf}
 
@@ -194,24 +193,14 @@ turn_other sources left right mine read units new n other within e made =
     made ∙ hand_other sources left right mine units n other
     (e ∙ get_or_default sources n read [] within)
 
-all_same : (s t : Channel → ℕ → List ℕ) → ((n : ℕ) → s Mean n ≡ t Mean n)
-    → s Left dac ≡ t Left dac → s Right dac ≡ t Right dac → (ns : List ℕ) (units : Units)
-    → fold (made_from no_waves s) units ns ≡ fold (made_from no_waves t) units ns
-all_same s t m l r [] units = refl
-all_same s t m l r (n ∷ ns) units =
-    ap (λ (us : Units). fold (made_from no_waves s) us ns) (made_same s t units n (m n) l r)
-    ∙ all_same s t m l r ns (made_from no_waves t units n)
-
--- a tick is a sample by the definition
-pub sample_is : (cs : List Connection) (sources : List (List ℕ)) (left right placed : List ℕ)
-    (units new : Units) → ((n : ℕ) → slice_index_or sources n [] ≡ sources_of cs n)
-    → left ≡ sources_on cs Left dac → right ≡ sources_on cs Right dac → placed ≡ order roots cs
-    → new ≡ fold (made_from no_waves (at_hand sources left right)) units placed
-    → new ≡ sampled no_waves roots cs units
-unfolding sampled
-sample_is cs sources left right placed units new wired l r is made =
-    made ∙ all_same (at_hand sources left right) (sources_on cs) wired l r placed units
-    ∙ ap (fold (made_from no_waves (sources_on cs)) units) is
+-- by the connections, where these are at hand
+pub turn_wired : (cs : List Connection) (sources : List (List ℕ)) (left right : List ℕ)
+    (units new : Units) (n : ℕ) → ((m : ℕ) → slice_index_or sources m [] ≡ sources_of cs m)
+    → left ≡ sources_on cs Left dac → right ≡ sources_on cs Right dac
+    → new ≡ made_from no_waves (at_hand sources left right) units n
+    → new ≡ made_from no_waves (sources_on cs) units n
+turn_wired cs sources left right units new n wired l r made =
+    made ∙ made_same (at_hand sources left right) (sources_on cs) units n (wired n) l r
 
 -- what holds of the one there
 pub if_there : (nodes : Units) (n : ℕ) (unit : UnitState) (P : UnitState → Type 0)

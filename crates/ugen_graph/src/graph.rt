@@ -252,14 +252,7 @@ impl Graph {
         if self.is_silent() {
             return;
         }
-        let wiring = &self.wiring;
-        sound_all(
-            wiring.order(),
-            wiring.sources(),
-            wiring.left(),
-            wiring.right(),
-            &mut self.nodes,
-        );
+        sound_all(&self.wiring, &mut self.nodes);
     }
 
     /// Whether nothing is connected and the output was 0 last: a sample leaves all as it is then.
