@@ -1,5 +1,5 @@
 -- The size of a tree: of how many tokens the grammar makes it.
-use Rattle.std.specs.Prelude.{ℕ, ◌+◌, ◌*◌, List, [], ◌∷◌, Bool, true, false, Option, Some, None}
+use Rattle.std.specs.Prelude.{ℕ, ◌+◌, ◌*◌, Bool, true, false, Option, Some, None}
 use Rattle.ck_syntax.specs.Tree.{Name, Expr, int, float, text, name, constant, time_unit, paren, array, call, index, member, postfix, dur, prefix, new, spork, cast, binary, choice, declare, chuck, Exprs, no_exprs, and_expr, Brackets, no_brackets, and_empty, and_size, Declr, declr, Declrs, no_declrs, and_declr, Stmt, block, empty, simple, declares, print, if_then, if_else, while_do, until_do, do_while, do_until, for_do, repeat, break, continue, return, Stmts, no_stmts, and_stmt, Params, no_params, and_param, Fun, fun, Members, no_members, and_member, Member, fun_member, stmt_member, Class, class, Item, class_item, fun_item, stmt_item, File, no_items, and_item}
 use Rattle.ck_syntax.specs.declared.declaration.DeclHead.{DeclHead}
 use Rattle.ck_syntax.specs.declared.declaration.TypeName.{TypeName}

@@ -1,10 +1,13 @@
 -- The program's trees, without where they lie in memory.
 use Rattle.std.specs.Prelude.{ℕ, List, [], ◌∷◌, Option, Some, None}
+use Rattle.std.specs.Global.{Box}
 use Rattle.ck_syntax.specs.Tree as t
-use Rattle.ck_syntax.specs.declared.expr.Expr as raw
+use Rattle.ck_syntax.specs.declared.expr.Expr.{Expr}
+use Rattle.ck_syntax.specs.declared.expr.ExprKind as raw
 use Rattle.ck_syntax.specs.declared.expr.Bracket as bracket
 use Rattle.ck_syntax.specs.declared.expr.Declarator as declarator
-use Rattle.ck_syntax.specs.declared.stmt.Stmt as stmt
+use Rattle.ck_syntax.specs.declared.stmt.Stmt.{Stmt}
+use Rattle.ck_syntax.specs.declared.stmt.StmtKind as stmt
 use Rattle.ck_syntax.specs.declared.file.FunDef as fun_def
 use Rattle.ck_syntax.specs.declared.file.ClassDef as class_def
 use Rattle.ck_syntax.specs.declared.file.Member.TheVariants as member
@@ -15,34 +18,36 @@ use Rattle.ck_syntax.specs.declared.file.Item.{Item}
 use Rattle.ck_syntax.specs.declared.file.Param.{Param}
 
 abbrev mutual
-  pub view_expr : raw.Expr → t.Expr
-  view_expr (raw.Int l v) = t.int l v
-  view_expr (raw.Float l v) = t.float l v
-  view_expr (raw.Text l v) = t.text l v
-  view_expr (raw.Name l n) = t.name l n
-  view_expr (raw.Constant l c) = t.constant l c
-  view_expr (raw.Unit l u) = t.time_unit l u
-  view_expr (raw.Paren' l p e) = t.paren l (view_expr e)
-  view_expr (raw.Array' l shape es) = t.array l (view_exprs t.no_exprs es)
-  view_expr (raw.Call' l p e shape es) = t.call l (view_expr e) (view_exprs t.no_exprs es)
-  view_expr (raw.Index' l p e q i) = t.index l (view_expr e) (view_expr i)
-  view_expr (raw.Member' l p e n) = t.member l (view_expr e) n
-  view_expr (raw.Postfix' l p e o) = t.postfix l (view_expr e) o
-  view_expr (raw.Dur' l p e q u) = t.dur l (view_expr e) (view_expr u)
-  view_expr (raw.Prefix' l o p e) = t.prefix l o (view_expr e)
-  view_expr (raw.New' l b shape es) = t.new l b (view_exprs t.no_exprs es)
-  view_expr (raw.Spork' l p e) = t.spork l (view_expr e)
-  view_expr (raw.Cast' l p e k) = t.cast l (view_expr e) k
-  view_expr (raw.Binary' l p e o q f) = t.binary l (view_expr e) o (view_expr f)
-  view_expr (raw.Cond' l p c q e r f) = t.choice l (view_expr c) (view_expr e) (view_expr f)
-  view_expr (raw.Declare' l h n shape bs) =
+  -- an expression of this line and kind
+  pub view_kind : ℕ → raw.ExprKind → t.Expr
+  view_kind l (raw.Int v) = t.int l v
+  view_kind l (raw.Float v) = t.float l v
+  view_kind l (raw.Text v) = t.text l v
+  view_kind l (raw.Name n) = t.name l n
+  view_kind l (raw.Constant c) = t.constant l c
+  view_kind l (raw.Unit u) = t.time_unit l u
+  view_kind l (raw.Paren' p el e) = t.paren l (view_kind el e)
+  view_kind l (raw.Array' shape es) = t.array l (view_exprs t.no_exprs es)
+  view_kind l (raw.Call' p el e shape es) = t.call l (view_kind el e) (view_exprs t.no_exprs es)
+  view_kind l (raw.Index' p el e q il i) = t.index l (view_kind el e) (view_kind il i)
+  view_kind l (raw.Member' p el e n) = t.member l (view_kind el e) n
+  view_kind l (raw.Postfix' p el e o) = t.postfix l (view_kind el e) o
+  view_kind l (raw.Dur' p el e q ul u) = t.dur l (view_kind el e) (view_kind ul u)
+  view_kind l (raw.Prefix' o p el e) = t.prefix l o (view_kind el e)
+  view_kind l (raw.New' b shape es) = t.new l b (view_exprs t.no_exprs es)
+  view_kind l (raw.Spork' p el e) = t.spork l (view_kind el e)
+  view_kind l (raw.Cast' p el e k) = t.cast l (view_kind el e) k
+  view_kind l (raw.Binary' p el e o q fl f) = t.binary l (view_kind el e) o (view_kind fl f)
+  view_kind l (raw.Cond' p cl c q el e r fl f) =
+      t.choice l (view_kind cl c) (view_kind el e) (view_kind fl f)
+  view_kind l (raw.Declare' h p n shape bs) =
       t.declare l h (t.declr n (view_brackets t.no_brackets bs))
-  view_expr (raw.Chuck' l p e o q f) = t.chuck l (view_expr e) o (view_expr f)
+  view_kind l (raw.Chuck' p el e o q fl f) = t.chuck l (view_kind el e) o (view_kind fl f)
 
   -- these, behind others
   pub view_exprs : t.Exprs → {m : _} → raw.Row_of-Expr m → t.Exprs
   view_exprs before raw.end_of-Expr = before
-  view_exprs before (raw.more_of-Expr e es) = view_exprs (t.and_expr before (view_expr e)) es
+  view_exprs before (raw.more_of-Expr l k es) = view_exprs (t.and_expr before (view_kind l k)) es
 
   pub view_brackets : t.Brackets → {m : _} → raw.Row_of-Bracket m → t.Brackets
   view_brackets before raw.end_of-Bracket = before
@@ -51,10 +56,13 @@ abbrev mutual
   -- the pairs of brackets, and one more
   pub with_bracket : t.Brackets → bracket.Bracket → t.Brackets
   with_bracket before bracket.Empty = t.and_empty before
-  with_bracket before (bracket.Size e) = t.and_size before (view_expr e)
+  with_bracket before (bracket.Size' l k) = t.and_size before (view_kind l k)
+
+abbrev pub view_expr : Expr → t.Expr
+view_expr e = view_kind e.line e.kind
 
 -- a list of expressions, behind others
-abbrev pub exprs_of : t.Exprs → List raw.Expr → t.Exprs
+abbrev pub exprs_of : t.Exprs → List Expr → t.Exprs
 exprs_of before [] = before
 exprs_of before (e ∷ es) = exprs_of (t.and_expr before (view_expr e)) es
 
@@ -69,37 +77,44 @@ abbrev pub declrs_of : t.Declrs → List declarator.Declarator → t.Declrs
 declrs_of before [] = before
 declrs_of before (x ∷ xs) = declrs_of (t.and_declr before (view_declr x)) xs
 
-abbrev pub view_option : Option raw.Expr → Option t.Expr
+-- the tree in a box, if there is one
+abbrev pub view_option : Option (Box Expr) → Option t.Expr
 view_option None = None
-view_option (Some e) = Some (view_expr e)
+view_option (Some e) = Some (view_expr e.value)
 
 abbrev mutual
-  pub view_stmt : stmt.Stmt → t.Stmt
-  view_stmt (stmt.Block' l shape ss) = t.block l (view_stmts t.no_stmts ss)
-  view_stmt (stmt.Empty l) = t.empty l
-  view_stmt (stmt.Expr l e) = t.simple l (view_expr e)
-  view_stmt (stmt.Declare l h xs) = t.declares l h (declrs_of t.no_declrs xs)
-  view_stmt (stmt.Print l es) = t.print l (exprs_of t.no_exprs es)
-  view_stmt (stmt.If' l e p s) = t.if_then l (view_expr e) (view_stmt s)
-  view_stmt (stmt.IfElse' l e p s q r) = t.if_else l (view_expr e) (view_stmt s) (view_stmt r)
-  view_stmt (stmt.While' l e p s) = t.while_do l (view_expr e) (view_stmt s)
-  view_stmt (stmt.Until' l e p s) = t.until_do l (view_expr e) (view_stmt s)
-  view_stmt (stmt.DoWhile' l p s e) = t.do_while l (view_stmt s) (view_expr e)
-  view_stmt (stmt.DoUntil' l p s e) = t.do_until l (view_stmt s) (view_expr e)
-  view_stmt (stmt.For' l p a q b e r s) =
-      t.for_do l (view_stmt a) (view_stmt b) (view_option e) (view_stmt s)
-  view_stmt (stmt.Repeat' l e p s) = t.repeat l (view_expr e) (view_stmt s)
-  view_stmt (stmt.Break l) = t.break l
-  view_stmt (stmt.Continue l) = t.continue l
-  view_stmt (stmt.Return l e) = t.return l (view_option e)
+  -- a statement of this line and kind
+  pub view_stmt_kind : ℕ → stmt.StmtKind → t.Stmt
+  view_stmt_kind l (stmt.Block' shape ss) = t.block l (view_stmts t.no_stmts ss)
+  view_stmt_kind l stmt.Empty = t.empty l
+  view_stmt_kind l (stmt.Expr e) = t.simple l (view_expr e)
+  view_stmt_kind l (stmt.Declare h xs) = t.declares l h (declrs_of t.no_declrs xs)
+  view_stmt_kind l (stmt.Print es) = t.print l (exprs_of t.no_exprs es)
+  view_stmt_kind l (stmt.If' e p sl s) = t.if_then l (view_expr e) (view_stmt_kind sl s)
+  view_stmt_kind l (stmt.IfElse' e p sl s q rl r) =
+      t.if_else l (view_expr e) (view_stmt_kind sl s) (view_stmt_kind rl r)
+  view_stmt_kind l (stmt.While' e p sl s) = t.while_do l (view_expr e) (view_stmt_kind sl s)
+  view_stmt_kind l (stmt.Until' e p sl s) = t.until_do l (view_expr e) (view_stmt_kind sl s)
+  view_stmt_kind l (stmt.DoWhile' p sl s e) = t.do_while l (view_stmt_kind sl s) (view_expr e)
+  view_stmt_kind l (stmt.DoUntil' p sl s e) = t.do_until l (view_stmt_kind sl s) (view_expr e)
+  view_stmt_kind l (stmt.For' p al a q bl b e r sl s) =
+      t.for_do l (view_stmt_kind al a) (view_stmt_kind bl b) (view_option e) (view_stmt_kind sl s)
+  view_stmt_kind l (stmt.Repeat' e p sl s) = t.repeat l (view_expr e) (view_stmt_kind sl s)
+  view_stmt_kind l stmt.Break = t.break l
+  view_stmt_kind l stmt.Continue = t.continue l
+  view_stmt_kind l (stmt.Return e) = t.return l (view_option e)
 
   -- these, behind others
   pub view_stmts : t.Stmts → {m : _} → stmt.Row_of-Stmt m → t.Stmts
   view_stmts before stmt.end_of-Stmt = before
-  view_stmts before (stmt.more_of-Stmt s ss) = view_stmts (t.and_stmt before (view_stmt s)) ss
+  view_stmts before (stmt.more_of-Stmt l k ss) =
+      view_stmts (t.and_stmt before (view_stmt_kind l k)) ss
+
+abbrev pub view_stmt : Stmt → t.Stmt
+view_stmt s = view_stmt_kind s.line s.kind
 
 -- a list of statements, behind others
-abbrev pub stmts_of : t.Stmts → List stmt.Stmt → t.Stmts
+abbrev pub stmts_of : t.Stmts → List Stmt → t.Stmts
 stmts_of before [] = before
 stmts_of before (s ∷ ss) = stmts_of (t.and_stmt before (view_stmt s)) ss
 
@@ -113,7 +128,7 @@ view_fun f =
     (stmts_of t.no_stmts f.body)
 
 abbrev pub view_member : Member → t.Member
-view_member (member.Fun f) = t.fun_member (view_fun f)
+view_member (member.Fun f) = t.fun_member (view_fun f.value)
 view_member (member.Stmt s) = t.stmt_member (view_stmt s)
 
 abbrev pub members_of : t.Members → List Member → t.Members
@@ -125,7 +140,7 @@ view_class c = t.class c.line c.is_public c.name c.parent (members_of t.no_membe
 
 abbrev pub view_item : Item → t.Item
 view_item (item.Class c) = t.class_item (view_class c)
-view_item (item.Fun f) = t.fun_item (view_fun f)
+view_item (item.Fun f) = t.fun_item (view_fun f.value)
 view_item (item.Stmt s) = t.stmt_item (view_stmt s)
 
 abbrev pub items_of : t.File → List Item → t.File

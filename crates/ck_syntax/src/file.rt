@@ -14,7 +14,7 @@ pub enum Item {
     /// `ClassDef`
     Class(ClassDef),
     /// `FunDef`
-    Fun(FunDef),
+    Fun(Box<FunDef>),
     /// `Stmt`
     Stmt(Stmt),
 }
@@ -34,7 +34,7 @@ pub struct ClassDef {
 #[derive(Drop)]
 pub enum Member {
     /// `FunDef`
-    Fun(FunDef),
+    Fun(Box<FunDef>),
     /// `Stmt`
     Stmt(Stmt),
 }

@@ -1,8 +1,8 @@
 //! The raw trees of the language, as the parser makes them and the type checker reads them.
 //!
-//! A tree has one variant for each alternative of the grammar, with the alternative's parts in
-//! order and the line of its first token. Parentheses are kept. No two trees of different form
-//! are made of the same tokens, and the size of a tree is the number of its tokens: both are
+//! A tree has the line of its first token, and a kind: one variant for each alternative of the
+//! grammar, with the alternative's parts in order. Parentheses are kept. No two trees of different
+//! form are made of the same tokens, and the size of a tree is the number of its tokens: both are
 //! proved in the parser's crate, where the grammar stands.
 #![tactic(auto)]
 
@@ -13,7 +13,7 @@ mod operator;
 mod stmt;
 
 pub use declaration::{Base, DeclHead, TypeName};
-pub use expr::{Bracket, Declarator, Expr};
+pub use expr::{Bracket, Declarator, Expr, ExprKind};
 pub use file::{ClassDef, File, FunDef, Item, Member, Param};
 pub use operator::{BinaryOp, ChuckOp, Constant, PostfixOp, PrefixOp, TimeUnit};
-pub use stmt::Stmt;
+pub use stmt::{Stmt, StmtKind};
