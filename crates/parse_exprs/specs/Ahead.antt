@@ -15,10 +15,11 @@ use Rattle.parse_exprs.specs.declared.opening.Lead.{Lead}
 use Rattle.parse_exprs.specs.declared.opening.Start.{Start}
 use Rattle.parse_exprs.specs.Machine.{State, a_cond, calls, chucks, joins, postfix, unary}
 use Rattle.parse_exprs.specs.Operands.{Behind, operand_from, either_way, declared_from, named_from}
-use Rattle.parse_exprs.specs.Operands.{a_dur, a_level, led, started, suffixed, view_boxed}
+use Rattle.parse_exprs.specs.Operands.{a_dur, a_level, led, started, suffixed}
 use Rattle.parse_exprs.specs.Reads.{Slice, Reads, Looks, Atoms, Deepens}
 use Rattle.parse_exprs.specs.Tokens.{Then, opening, a_mark, has}
 use Rattle.ck_syntax.specs.Tree.{Expr, Name, expr_line, binary, chuck}
+use Rattle.ck_syntax.specs.View.{view_option}
 use Rattle.ck_syntax.specs.declared.declaration.Base.{Base}
 use Rattle.ck_syntax.specs.declared.declaration.DeclHead.{DeclHead}
 use Rattle.ck_syntax.specs.declared.expr.Expr.{Expr as Node}
@@ -28,7 +29,7 @@ use Rattle.ck_syntax.specs.declared.operator.ChuckOp.{ChuckOp}
 -- the expression that this token is by itself, if it is one
 abbrev pub GivesAtom : Token → Result (Option (Box Node)) Fault → Type 0
 GivesAtom x r = MatchResult r
-    (λ e. Atoms (opening x.line x.kind) x.line (view_boxed e))
+    (λ e. Atoms (opening x.line x.kind) x.line (view_option e))
     (λ f. f ≡ Memory out_of_memory)
 
 -- the depth behind this mark, and what stands there; or the mark does not come next, or stands too

@@ -29,10 +29,6 @@ use Rattle.ck_syntax.specs.declared.expr.Expr.{Expr as Node}
 abbrev pub tree_of : Box Node → Expr
 tree_of e = view_expr e.value
 
-abbrev pub view_boxed : Option (Box Node) → Option Expr
-view_boxed None = None
-view_boxed (Some e) = Some (view_expr e.value)
-
 -- what is to come behind a declaration, and behind a value
 pub record Behind : Type 0 where
   pub declaration : ℕ → DeclHead → Declr → State

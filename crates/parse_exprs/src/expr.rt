@@ -10,12 +10,12 @@ ghost use Rattle.parse_exprs.specs.Machine.{postfix as a_postfix, sizes as some_
 ghost use Rattle.parse_exprs.specs.Machine.{unary as a_unary};
 ghost use Rattle.parse_exprs.specs.Operands.{IsShallow, a_dur, a_level, all_closed, arguments_of};
 ghost use Rattle.parse_exprs.specs.Operands.{closed, led as is_led};
-ghost use Rattle.parse_exprs.specs.Operands.{optional, suffixed, tree_of, view_boxed};
+ghost use Rattle.parse_exprs.specs.Operands.{optional, suffixed, tree_of};
 ghost use Rattle.parse_exprs.specs.Parts.{ReadsExpr, ReadsExprs, ReadsOpen, ReadsOperand, ReadsTo};
 ghost use Rattle.parse_exprs.specs.Reads.{ReadsPart};
 ghost use Rattle.parse_exprs.specs.Tokens.{a_mark};
 ghost use Rattle.ck_syntax.specs.Tree.{no_exprs, no_brackets};
-ghost use Rattle.ck_syntax.specs.View.{view_declr, brackets_of};
+ghost use Rattle.ck_syntax.specs.View.{view_declr, view_option, brackets_of};
 
 use crate::ahead::{chuck, declaration, enter, lead, operator, start, suffix};
 use crate::fault::{Parsed, ParsedTo};
@@ -170,7 +170,7 @@ pub fn optional_expr<'a>(
     mark: Mark,
 ) -> Parsed<'a, Option<Box<Expr>>>
     requires { depth ≤ MAX_NESTING }
-    ensures reads { ReadsPart (optional depth (a_mark mark)) view_boxed tokens.now result }
+    ensures reads { ReadsPart (optional depth (a_mark mark)) view_option tokens.now result }
     ensures fewer { IfOk result (λ x. length x.1.now < length tokens.now) }
 {
     if let Some(rest) = eat_mark(tokens, mark) {

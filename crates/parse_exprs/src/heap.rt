@@ -2,10 +2,7 @@
 //!
 //! The functions of the parser hand each other a tree in a box.
 ghost use Rattle.std.specs.Prelude.{◌≡◌, ◌++◌, ◌∷◌, [], IfOk, OnOk};
-ghost use Rattle.parse_exprs.specs.Operands.{view_boxed};
-ghost use Rattle.ck_syntax.specs.View.{view_option};
 
-use ck_syntax::Expr;
 use fixed_point::Memory;
 use std::alloc::Global;
 
@@ -15,16 +12,6 @@ pub fn boxed<T: Drop>(alloc: Global, value: T) -> Result<Box<T>, Memory>
 {
     let boxed = Box::new(alloc, value)?;
     Ok(boxed)
-}
-
-/// The expression in the box, if there is one.
-pub fn unboxed(option: Option<Box<Expr>>) -> Option<Expr>
-    ensures { view_option result ≡ view_boxed option }
-{
-    match option {
-        Some(expr) => Some(Box::into_inner(expr)),
-        None => None,
-    }
 }
 
 /// Adds an item at the end.

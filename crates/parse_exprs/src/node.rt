@@ -1,82 +1,73 @@
 //! The nodes of an expression, made of their parts.
+#![tactic(auto, using(ck_syntax::proofs::Views::line_is))]
+
 ghost use Rattle.std.specs.Prelude.{◌≡◌, ◌≤◌, IfOk};
 ghost use Rattle.ck_base.specs.declared.limits.TheConstants.{MAX_NESTING};
 ghost use Rattle.parse_exprs.specs.Nodes as nodes;
 ghost use Rattle.parse_exprs.specs.Nodes.{Makes};
 ghost use Rattle.parse_exprs.specs.Operands.{IsShallow, bracketed, either_way, operand_next};
-ghost use Rattle.parse_exprs.specs.Operands.{tree_of, view_boxed};
+ghost use Rattle.parse_exprs.specs.Operands.{tree_of};
 ghost use Rattle.ck_syntax.specs.Tree as trees;
 ghost use Rattle.ck_syntax.specs.Tree.{no_exprs};
-ghost use Rattle.ck_syntax.specs.View.{exprs_of, view_declr, with_bracket};
+ghost use Rattle.ck_syntax.specs.View.{exprs_of, view_declr, view_kind, view_option, with_bracket};
 
 use crate::heap::boxed;
 use crate::operand::Operand;
 use ck_base::{List, Text};
 use ck_syntax::{
-    Base, BinaryOp, Bracket, ChuckOp, DeclHead, Declarator, Expr, PostfixOp, PrefixOp, TypeName,
+    Base, BinaryOp, Bracket, ChuckOp, DeclHead, Declarator, Expr, ExprKind, PostfixOp, PrefixOp,
+    TypeName,
 };
 use fixed_point::Memory;
 use std::alloc::Global;
+
+/// An expression of this line and kind.
+pub fn node(alloc: Global, line: u32, kind: ExprKind) -> Result<Box<Expr>, Memory>
+    ensures { Makes (view_kind line kind) result }
+{
+    boxed(alloc, Expr { line, kind })
+}
 
 /// An expression in parentheses.
 pub fn paren(alloc: Global, line: u32, inner: Box<Expr>) -> Result<Box<Expr>, Memory>
     ensures { Makes (trees.paren line (tree_of inner)) result }
 {
-    boxed(alloc, Expr::Paren { line, inner })
+    node(alloc, line, ExprKind::Paren(inner))
 }
 
 /// A call of `callee`.
 pub fn call(alloc: Global, callee: Box<Expr>, arguments: List<Expr>) -> Result<Box<Expr>, Memory>
     ensures { Makes (nodes.call (tree_of callee) (exprs_of no_exprs arguments)) result }
 {
-    let line = callee.line();
-    boxed(
-        alloc,
-        Expr::Call {
-            line,
-            callee,
-            arguments,
-        },
-    )
+    node(alloc, callee.line, ExprKind::Call { callee, arguments })
 }
 
 /// An item of `array`.
 pub fn index(alloc: Global, array: Box<Expr>, index: Box<Expr>) -> Result<Box<Expr>, Memory>
     ensures { Makes (nodes.index (tree_of array) (tree_of index)) result }
 {
-    let line = array.line();
-    boxed(alloc, Expr::Index { line, array, index })
+    node(alloc, array.line, ExprKind::Index { array, index })
 }
 
 /// A member of `object`.
 pub fn member(alloc: Global, object: Box<Expr>, name: Text) -> Result<Box<Expr>, Memory>
     ensures { Makes (nodes.member (tree_of object) name) result }
 {
-    let line = object.line();
-    boxed(alloc, Expr::Member { line, object, name })
+    node(alloc, object.line, ExprKind::Member { object, name })
 }
 
 /// `++` or `--` behind its operand.
 pub fn postfix(alloc: Global, operand: Box<Expr>, operator: PostfixOp) -> Result<Box<Expr>, Memory>
     ensures { Makes (nodes.postfix (tree_of operand) operator) result }
 {
-    let line = operand.line();
-    boxed(
-        alloc,
-        Expr::Postfix {
-            line,
-            operand,
-            operator,
-        },
-    )
+    node(alloc, operand.line, ExprKind::Postfix { operand, operator })
 }
 
 /// A duration: a count and its unit.
 pub fn dur(alloc: Global, count: Box<Expr>, unit: Box<Expr>) -> Result<Box<Expr>, Memory>
     ensures { Makes (nodes.dur (tree_of count) (tree_of unit)) result }
 {
-    let line = count.line();
-    boxed(alloc, Expr::Dur { line, count, unit })
+    node(alloc, count.line, ExprKind::Dur { count, unit })
 }
 
 /// An operator before its operand.
@@ -88,36 +79,21 @@ pub fn prefix(
 ) -> Result<Box<Expr>, Memory>
     ensures { Makes (trees.prefix line operator (tree_of operand)) result }
 {
-    boxed(
-        alloc,
-        Expr::Prefix {
-            line,
-            operator,
-            operand,
-        },
-    )
+    node(alloc, line, ExprKind::Prefix { operator, operand })
 }
 
 /// A call in a shred of its own.
 pub fn spork(alloc: Global, line: u32, call: Box<Expr>) -> Result<Box<Expr>, Memory>
     ensures { Makes (trees.spork line (tree_of call)) result }
 {
-    boxed(alloc, Expr::Spork { line, call })
+    node(alloc, line, ExprKind::Spork(call))
 }
 
 /// A value as one of another type.
 pub fn cast(alloc: Global, value: Box<Expr>, target: TypeName) -> Result<Box<Expr>, Memory>
     ensures { Makes (nodes.cast (tree_of value) target) result }
 {
-    let line = value.line();
-    boxed(
-        alloc,
-        Expr::Cast {
-            line,
-            value,
-            target,
-        },
-    )
+    node(alloc, value.line, ExprKind::Cast { value, target })
 }
 
 /// A binary operator between its operands.
@@ -129,16 +105,13 @@ pub fn binary(
 ) -> Result<Box<Expr>, Memory>
     ensures { Makes (nodes.binary (tree_of left) operator (tree_of right)) result }
 {
-    let line = left.line();
-    boxed(
-        alloc,
-        Expr::Binary {
-            line,
-            left,
-            operator,
-            right,
-        },
-    )
+    let line = left.line;
+    let kind = ExprKind::Binary {
+        left,
+        operator,
+        right,
+    };
+    node(alloc, line, kind)
 }
 
 /// A choice between two by a test.
@@ -150,16 +123,13 @@ pub fn choice(
 ) -> Result<Box<Expr>, Memory>
     ensures { Makes (nodes.choice (tree_of test) (tree_of then) (tree_of otherwise)) result }
 {
-    let line = test.line();
-    boxed(
-        alloc,
-        Expr::Cond {
-            line,
-            test,
-            then,
-            otherwise,
-        },
-    )
+    let line = test.line;
+    let kind = ExprKind::Cond {
+        test,
+        then,
+        otherwise,
+    };
+    node(alloc, line, kind)
 }
 
 /// A chuck operator between its operands.
@@ -171,30 +141,27 @@ pub fn chuck(
 ) -> Result<Box<Expr>, Memory>
     ensures { Makes (nodes.chuck (tree_of left) operator (tree_of right)) result }
 {
-    let line = left.line();
-    boxed(
-        alloc,
-        Expr::Chuck {
-            line,
-            left,
-            operator,
-            right,
-        },
-    )
+    let line = left.line;
+    let kind = ExprKind::Chuck {
+        left,
+        operator,
+        right,
+    };
+    node(alloc, line, kind)
 }
 
 /// An array of these items.
 pub fn array(alloc: Global, line: u32, items: List<Expr>) -> Result<Box<Expr>, Memory>
     ensures { Makes (trees.array line (exprs_of no_exprs items)) result }
 {
-    boxed(alloc, Expr::Array { line, items })
+    node(alloc, line, ExprKind::Array(items))
 }
 
 /// A new object, or a new array of these sizes.
 pub fn object(alloc: Global, line: u32, base: Base, sizes: List<Expr>) -> Result<Box<Expr>, Memory>
     ensures { Makes (trees.new line base (exprs_of no_exprs sizes)) result }
 {
-    boxed(alloc, Expr::New { line, base, sizes })
+    node(alloc, line, ExprKind::New { base, sizes })
 }
 
 /// A declaration.
@@ -206,17 +173,13 @@ pub fn declaration(
 ) -> Result<Box<Expr>, Memory>
     ensures { Makes (trees.declare line head (view_declr declarator)) result }
 {
-    let declaration = Expr::Declare {
-        line,
-        head,
-        declarator,
-    };
-    boxed(alloc, declaration)
+    let declarator = boxed(alloc, declarator)?;
+    node(alloc, line, ExprKind::Declare { head, declarator })
 }
 
 /// A pair of brackets, with its size if there is one.
 pub fn bracket(size: Option<Box<Expr>>) -> Bracket
-    ensures { (before : _) → with_bracket before result ≡ bracketed before (view_boxed size) }
+    ensures { (before : _) → with_bracket before result ≡ bracketed before (view_option size) }
 {
     match size {
         Some(size) => Bracket::Size(Box::into_inner(size)),

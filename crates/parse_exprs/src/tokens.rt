@@ -10,16 +10,18 @@ ghost use Rattle.parse_exprs.specs.Reads.{ExpectsName, FindsChuck};
 ghost use Rattle.parse_exprs.specs.Reads.{FindsOperator, after, begins_declared, next_follow};
 ghost use Rattle.parse_exprs.specs.Tokens.{a_mark, a_word, follow, is_sign, level, mark_number};
 ghost use Rattle.parse_exprs.specs.Tokens.{opening, word_number};
-ghost use Rattle.ck_syntax.specs.View.{view_option};
+ghost use Rattle.ck_syntax.specs.View.{view_kind};
+ghost use Rattle.std.specs.Option.{option_map};
 
 use crate::fault::{Fault, Parsed};
 use crate::follow::Follow;
-use crate::heap::boxed;
+use crate::node::node;
 use crate::opening::Opening;
 use ck_base::Text;
 use ck_base::limits::MAX_NESTING;
 use ck_lexer::{Mark, Token, TokenKind, Word};
-use ck_syntax::{Base, BinaryOp, ChuckOp, Constant, Expr, PostfixOp, PrefixOp, TimeUnit};
+use ck_syntax::{Base, BinaryOp, ChuckOp, Constant, Expr, ExprKind, PostfixOp, PrefixOp, TimeUnit};
+use fixed_point::Memory;
 use std::alloc::Global;
 
 /// The first token and those behind it.
@@ -154,71 +156,43 @@ pub fn deeper(depth: u32, tokens: &[Token]) -> Result<u32, Fault>
     }
 }
 
-fn word_atom(line: u32, word: Word) -> Option<Expr>
-    ensures { Atoms (opening line (word_kind word)) line (view_option result) }
+/// The kind of expression that a word is by itself.
+fn word_atom(word: Word) -> Option<ExprKind>
+    ensures { (line : _) → Atoms (opening line (word_kind word)) line
+        (option_map (view_kind line) result) }
 {
     match word {
-        Word::True => Some(Expr::Constant {
-            line,
-            constant: Constant::True,
-        }),
-        Word::False => Some(Expr::Constant {
-            line,
-            constant: Constant::False,
-        }),
-        Word::Null => Some(Expr::Constant {
-            line,
-            constant: Constant::Null,
-        }),
-        Word::Now => Some(Expr::Constant {
-            line,
-            constant: Constant::Now,
-        }),
-        Word::Me => Some(Expr::Constant {
-            line,
-            constant: Constant::Me,
-        }),
-        Word::Dac => Some(Expr::Constant {
-            line,
-            constant: Constant::Dac,
-        }),
-        Word::Blackhole => Some(Expr::Constant {
-            line,
-            constant: Constant::Blackhole,
-        }),
-        Word::This => Some(Expr::Constant {
-            line,
-            constant: Constant::This,
-        }),
-        Word::Samp => Some(Expr::Unit {
-            line,
-            unit: TimeUnit::Samp,
-        }),
-        Word::Ms => Some(Expr::Unit {
-            line,
-            unit: TimeUnit::Ms,
-        }),
-        Word::Second => Some(Expr::Unit {
-            line,
-            unit: TimeUnit::Second,
-        }),
-        Word::Minute => Some(Expr::Unit {
-            line,
-            unit: TimeUnit::Minute,
-        }),
-        Word::Hour => Some(Expr::Unit {
-            line,
-            unit: TimeUnit::Hour,
-        }),
-        Word::Day => Some(Expr::Unit {
-            line,
-            unit: TimeUnit::Day,
-        }),
-        Word::Week => Some(Expr::Unit {
-            line,
-            unit: TimeUnit::Week,
-        }),
+        Word::True => Some(ExprKind::Constant(Constant::True)),
+        Word::False => Some(ExprKind::Constant(Constant::False)),
+        Word::Null => Some(ExprKind::Constant(Constant::Null)),
+        Word::Now => Some(ExprKind::Constant(Constant::Now)),
+        Word::Me => Some(ExprKind::Constant(Constant::Me)),
+        Word::Dac => Some(ExprKind::Constant(Constant::Dac)),
+        Word::Blackhole => Some(ExprKind::Constant(Constant::Blackhole)),
+        Word::This => Some(ExprKind::Constant(Constant::This)),
+        Word::Samp => Some(ExprKind::Unit(TimeUnit::Samp)),
+        Word::Ms => Some(ExprKind::Unit(TimeUnit::Ms)),
+        Word::Second => Some(ExprKind::Unit(TimeUnit::Second)),
+        Word::Minute => Some(ExprKind::Unit(TimeUnit::Minute)),
+        Word::Hour => Some(ExprKind::Unit(TimeUnit::Hour)),
+        Word::Day => Some(ExprKind::Unit(TimeUnit::Day)),
+        Word::Week => Some(ExprKind::Unit(TimeUnit::Week)),
         _ => None,
+    }
+}
+
+/// The kind of expression that a token is by itself.
+fn atom_kind(alloc: Global, token: &Token) -> Result<Option<ExprKind>, Memory>
+    ensures { IfOk result (λ k. Atoms (opening token.now.line token.now.kind) token.now.line
+        (option_map (view_kind token.now.line) k)) }
+{
+    match &token.kind {
+        TokenKind::Int(value) => Ok(Some(ExprKind::Int(*value))),
+        TokenKind::Float(value) => Ok(Some(ExprKind::Float(*value))),
+        TokenKind::Text(value) => Ok(Some(ExprKind::Text(value.try_clone(alloc)?))),
+        TokenKind::Name(name) => Ok(Some(ExprKind::Name(name.try_clone(alloc)?))),
+        TokenKind::Word(word) => Ok(word_atom(*word)),
+        _ => Ok(None),
     }
 }
 
@@ -226,30 +200,10 @@ fn word_atom(line: u32, word: Word) -> Option<Expr>
 pub fn atom(alloc: Global, token: &Token) -> Result<Option<Box<Expr>>, Fault>
     ensures { GivesAtom token.now result }
 {
-    let line = token.line;
-    match &token.kind {
-        TokenKind::Int(value) => {
-            let value = *value;
-            Ok(Some(boxed(alloc, Expr::Int { line, value })?))
-        }
-        TokenKind::Float(value) => {
-            let value = *value;
-            Ok(Some(boxed(alloc, Expr::Float { line, value })?))
-        }
-        TokenKind::Text(value) => {
-            let value = value.try_clone(alloc)?;
-            Ok(Some(boxed(alloc, Expr::Text { line, value })?))
-        }
-        TokenKind::Name(name) => {
-            let name = name.try_clone(alloc)?;
-            Ok(Some(boxed(alloc, Expr::Name { line, name })?))
-        }
-        TokenKind::Word(word) => match word_atom(line, *word) {
-            Some(expr) => Ok(Some(boxed(alloc, expr)?)),
-            None => Ok(None),
-        },
-        _ => Ok(None),
-    }
+    let Some(kind) = atom_kind(alloc, token)? else {
+        return Ok(None);
+    };
+    Ok(Some(node(alloc, token.line, kind)?))
 }
 
 fn word_opening(line: u32, word: Word) -> Opening

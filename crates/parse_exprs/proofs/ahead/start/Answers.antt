@@ -1,13 +1,13 @@
 use Rattle.std.proofs.Common.{◌∙◌, ap}
 use Rattle.std.proofs.lemmas.Result.{err_from_is_err_and}
-use Rattle.parse_exprs.specs.Operands.{view_boxed}
+use Rattle.ck_syntax.specs.View.{view_option}
 use Rattle.parse_exprs.proofs.Made.{deep_array, deep_paren, in_array, in_paren, made_atom}
 use Rattle.parse_exprs.proofs.MadeHeads.{not_a_start}
 use Rattle.parse_exprs.proofs.ahead.start.Goals as goal
 
 pub returns-in-Some-2-clause-reads : goal.returns-in-Some-2-clause-reads
 returns-in-Some-2-clause-reads c = made_atom c.args.depth c.in-Some.ensures.token
-    (c.in_ok-expr.ensures ∙ ap view_boxed c.in-Some-2.is) c.requires
+    (c.in_ok-expr.ensures ∙ ap view_option c.in-Some-2.is) c.requires
 
 pub returns-in_err-deeper-in-Paren-clause-reads : goal.returns-in_err-deeper-in-Paren-clause-reads
 returns-in_err-deeper-in-Paren-clause-reads c =
@@ -36,7 +36,7 @@ returns-in_ok-deeper-in-Array-clause-reads c =
 pub returns-in_default-opening_of : goal.returns-in_default-opening_of
 returns-in_default-opening_of c = record {
   reads = not_a_start c.args.depth c.opening_of.result c.in-Some.ensures.token
-      c.opening_of.ensures (c.in_ok-expr.ensures ∙ ap view_boxed c.in_default-2.is)
+      c.opening_of.ensures (c.in_ok-expr.ensures ∙ ap view_option c.in_default-2.is)
       c.in_default-opening_of.not-Paren c.in_default-opening_of.not-Array;
   shallow = tt;
   fewer = tt;

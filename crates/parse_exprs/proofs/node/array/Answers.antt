@@ -1,9 +1,6 @@
-use Rattle.std.proofs.Common.{◌∙◌, ap}
-use Rattle.std.proofs.lemmas.Result.{IfOk-weaker}
-use Rattle.ck_syntax.specs.View.{view_expr}
+use Rattle.std.proofs.Common.{rules}
 use Rattle.ck_syntax.proofs.Views.{view-Array}
 use Rattle.parse_exprs.proofs.node.array.Goals as goal
 
 pub returns : goal.returns
-returns c = IfOk-weaker c.boxed.result _ _
-    (λ b e. ap view_expr e ∙ view-Array c.args.line c.args.items) c.boxed.ensures
+returns c = let is = view-Array c.args.line c.args.items in search (rules, is)
