@@ -10,7 +10,7 @@ use Rattle.parse_exprs.specs.declared.fault.Fault.{Fault}
 use Rattle.parse_exprs.specs.Machine.{State, sign, may, a_stmt, an_expr_stmt, stmts, chucks}
 use Rattle.parse_exprs.specs.Machine.{more_declrs, a_declr, some_exprs, a_test, declares_or}
 use Rattle.parse_exprs.specs.Machine.{simple_end}
-use Rattle.parse_exprs.specs.Operands.{Behind, optional, tree_of, view_boxed}
+use Rattle.parse_exprs.specs.Operands.{Behind, optional, tree_of}
 use Rattle.parse_exprs.specs.Reads.{Slice, Reads, ReadsPart}
 use Rattle.parse_exprs.specs.Tokens.{Opening, opens_block, opens_if, opens_while, opens_until}
 use Rattle.parse_exprs.specs.Tokens.{opens_do, opens_for, opens_repeat, opens_fun, opens_class}
@@ -18,7 +18,7 @@ use Rattle.parse_exprs.specs.Tokens.{opens_public, opens_nothing, opening, a_wor
 use Rattle.ck_syntax.specs.Tree as t
 use Rattle.ck_syntax.specs.Tree.{Expr, Exprs, Declr, Declrs, Stmt, Stmts, no_stmts, no_declrs}
 use Rattle.ck_syntax.specs.Tree.{and_declr}
-use Rattle.ck_syntax.specs.View.{view_stmt}
+use Rattle.ck_syntax.specs.View.{view_option, view_stmt}
 use Rattle.ck_syntax.specs.declared.expr.Expr.{Expr as ExprNode}
 use Rattle.ck_syntax.specs.declared.stmt.Stmt.{Stmt as StmtNode}
 
@@ -142,5 +142,5 @@ abbrev pub ReadsForHead : ℕ → List Token
     → Result (Box StmtNode × Box StmtNode × Option (Box ExprNode) × Slice) Fault → Type 0
 ReadsForHead d ts r = Reads
     (λ (k : Stmt → Stmt → Option Expr → State). for_head d k)
-    (λ x k. k (stmt_of x.0) (stmt_of x.1) (view_boxed x.2))
+    (λ x k. k (stmt_of x.0) (stmt_of x.1) (view_option x.2))
     (λ x. x.3.now) ts r

@@ -127,6 +127,7 @@ fn member<'a>(alloc: Global, tokens: &'a [Token]) -> Parsed<'a, Box<Member>>
     match opening_of(token) {
         Opening::Fun => {
             let (fun, rest) = fun_def(alloc, token.line, behind)?;
+            let fun = boxed(alloc, fun)?;
             Ok((boxed(alloc, Member::Fun(fun))?, rest))
         }
         _ => {
@@ -201,6 +202,7 @@ fn item<'a>(alloc: Global, tokens: &'a [Token]) -> Parsed<'a, Box<Item>>
     match opening_of(token) {
         Opening::Fun => {
             let (fun, rest) = fun_def(alloc, token.line, behind)?;
+            let fun = boxed(alloc, fun)?;
             Ok((boxed(alloc, Item::Fun(fun))?, rest))
         }
         Opening::Class => {

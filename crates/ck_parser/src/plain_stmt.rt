@@ -13,14 +13,14 @@ ghost use Rattle.parse_exprs.specs.Reads.{ReadsPart};
 ghost use Rattle.ck_syntax.specs.Tree.{no_declrs};
 ghost use Rattle.ck_syntax.specs.View.{view_declr, declrs_of};
 
-use crate::stmt_node::{do_until, do_while, return_value, simple};
+use crate::stmt_node::{do_until, do_while, node, return_value, simple};
 use ck_base::List;
 use ck_lexer::{Mark, Token, Word};
-use ck_syntax::{DeclHead, Declarator, Expr, Stmt};
+use ck_syntax::{DeclHead, Declarator, Expr, Stmt, StmtKind};
 use parse_exprs::expr::{
     chuck_rest, closed_expr, closed_exprs, declarator, operand, optional_expr,
 };
-use parse_exprs::heap::{boxed, push};
+use parse_exprs::heap::push;
 use parse_exprs::node::declaration;
 use parse_exprs::tokens::{
     deeper, eat_mark, eat_word, expect_mark, expect_word, first, opening_of,
@@ -63,7 +63,7 @@ fn print_stmt<'a>(
 {
     let (items, behind) = closed_exprs(alloc, depth, tokens, Mark::PrintClose)?;
     let rest = expect_mark(behind, Mark::Semicolon)?;
-    Ok((boxed(alloc, Stmt::Print { line, items })?, rest))
+    Ok((node(alloc, line, StmtKind::Print(items))?, rest))
 }
 
 /// A `return`, behind its word.
@@ -141,12 +141,8 @@ fn declare_stmt<'a>(
     if let Some(behind) = eat_mark(tokens, Mark::Comma) {
         let (declarators, close) = declarators(alloc, depth, first, behind)?;
         let rest = expect_mark(close, Mark::Semicolon)?;
-        let stmt = Stmt::Declare {
-            line,
-            head,
-            declarators,
-        };
-        Ok((boxed(alloc, stmt)?, rest))
+        let stmt = node(alloc, line, StmtKind::Declare { head, declarators })?;
+        Ok((stmt, rest))
     } else {
         let left = declaration(alloc, line, head, first)?;
         simple_stmt(alloc, depth, depth, left, tokens)
@@ -161,7 +157,7 @@ pub fn expr_stmt<'a>(alloc: Global, depth: u32, tokens: &'a [Token]) -> Parsed<'
 {
     if let Some(rest) = eat_mark(tokens, Mark::Semicolon) {
         let line = next_line(tokens);
-        return Ok((boxed(alloc, Stmt::Empty { line })?, rest));
+        return Ok((node(alloc, line, StmtKind::Empty)?, rest));
     }
     let (first, behind) = operand(alloc, depth, tokens)?;
     match first {
@@ -190,11 +186,11 @@ pub fn plain_stmt<'a>(alloc: Global, depth: u32, tokens: &'a [Token]) -> Parsed<
         Opening::Return => return_stmt(alloc, line, depth, behind),
         Opening::Break => {
             let rest = expect_mark(behind, Mark::Semicolon)?;
-            Ok((boxed(alloc, Stmt::Break { line })?, rest))
+            Ok((node(alloc, line, StmtKind::Break)?, rest))
         }
         Opening::Continue => {
             let rest = expect_mark(behind, Mark::Semicolon)?;
-            Ok((boxed(alloc, Stmt::Continue { line })?, rest))
+            Ok((node(alloc, line, StmtKind::Continue)?, rest))
         }
         _ => expr_stmt(alloc, depth, tokens),
     }

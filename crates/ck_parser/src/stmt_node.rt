@@ -1,14 +1,14 @@
 //! The nodes of statements, made of their parts.
 ghost use Rattle.ck_parser.specs.Statements.{MakesStmt, loop_of, stmt_of};
-ghost use Rattle.parse_exprs.specs.Operands.{tree_of, view_boxed};
+ghost use Rattle.parse_exprs.specs.Operands.{tree_of};
 ghost use Rattle.ck_syntax.specs.Tree as trees;
 ghost use Rattle.ck_syntax.specs.Tree.{expr_line, no_stmts, return as a_return};
-ghost use Rattle.ck_syntax.specs.View.{stmts_of};
+ghost use Rattle.ck_syntax.specs.View.{stmts_of, view_option, view_stmt_kind};
 
 use ck_base::List;
-use ck_syntax::{Expr, Stmt};
+use ck_syntax::{Expr, Stmt, StmtKind};
 use fixed_point::Memory;
-use parse_exprs::heap::{boxed, unboxed};
+use parse_exprs::heap::boxed;
 use std::alloc::Global;
 
 /// The word that begins a loop whose test stands before its body.
@@ -19,28 +19,34 @@ pub enum LoopWord {
     Repeat,
 }
 
+/// A statement of this line and kind.
+pub fn node(alloc: Global, line: u32, kind: StmtKind) -> Result<Box<Stmt>, Memory>
+    ensures { MakesStmt (view_stmt_kind line kind) result }
+{
+    boxed(alloc, Stmt { line, kind })
+}
+
 /// An expression as a statement.
+#[tactic(auto, using(ck_syntax::proofs::Views::line_is))]
 pub fn simple(alloc: Global, expr: Box<Expr>) -> Result<Box<Stmt>, Memory>
     ensures { MakesStmt (trees.simple (expr_line (tree_of expr)) (tree_of expr)) result }
 {
-    let line = expr.line();
     let expr = Box::into_inner(expr);
-    boxed(alloc, Stmt::Expr { line, expr })
+    node(alloc, expr.line, StmtKind::Expr(expr))
 }
 
 /// A `return`, with its value if there is one.
 pub fn return_value(alloc: Global, line: u32, value: Option<Box<Expr>>) -> Result<Box<Stmt>, Memory>
-    ensures { MakesStmt (a_return line (view_boxed value)) result }
+    ensures { MakesStmt (a_return line (view_option value)) result }
 {
-    let value = unboxed(value);
-    boxed(alloc, Stmt::Return { line, value })
+    node(alloc, line, StmtKind::Return(value))
 }
 
 /// A block.
 pub fn block(alloc: Global, line: u32, stmts: List<Stmt>) -> Result<Box<Stmt>, Memory>
     ensures { MakesStmt (trees.block line (stmts_of no_stmts stmts)) result }
 {
-    boxed(alloc, Stmt::Block { line, stmts })
+    node(alloc, line, StmtKind::Block(stmts))
 }
 
 /// An `if` without `else`.
@@ -52,14 +58,8 @@ pub fn if_then(
 ) -> Result<Box<Stmt>, Memory>
     ensures { MakesStmt (trees.if_then line (tree_of test) (stmt_of then)) result }
 {
-    boxed(
-        alloc,
-        Stmt::If {
-            line,
-            test: Box::into_inner(test),
-            then,
-        },
-    )
+    let test = Box::into_inner(test);
+    node(alloc, line, StmtKind::If { test, then })
 }
 
 /// An `if` with its `else`.
@@ -73,15 +73,12 @@ pub fn if_else(
     ensures { MakesStmt (trees.if_else line (tree_of test) (stmt_of then) (stmt_of otherwise))
         result }
 {
-    boxed(
-        alloc,
-        Stmt::IfElse {
-            line,
-            test: Box::into_inner(test),
-            then,
-            otherwise,
-        },
-    )
+    let kind = StmtKind::IfElse {
+        test: Box::into_inner(test),
+        then,
+        otherwise,
+    };
+    node(alloc, line, kind)
 }
 
 /// A loop whose test stands before its body.
@@ -96,12 +93,9 @@ pub fn loop_before(
 {
     let test = Box::into_inner(test);
     match word {
-        LoopWord::While => boxed(alloc, Stmt::While { line, test, body }),
-        LoopWord::Until => boxed(alloc, Stmt::Until { line, test, body }),
-        LoopWord::Repeat => {
-            let count = test;
-            boxed(alloc, Stmt::Repeat { line, count, body })
-        }
+        LoopWord::While => node(alloc, line, StmtKind::While { test, body }),
+        LoopWord::Until => node(alloc, line, StmtKind::Until { test, body }),
+        LoopWord::Repeat => node(alloc, line, StmtKind::Repeat { count: test, body }),
     }
 }
 
@@ -114,14 +108,8 @@ pub fn do_while(
 ) -> Result<Box<Stmt>, Memory>
     ensures { MakesStmt (trees.do_while line (stmt_of body) (tree_of test)) result }
 {
-    boxed(
-        alloc,
-        Stmt::DoWhile {
-            line,
-            body,
-            test: Box::into_inner(test),
-        },
-    )
+    let test = Box::into_inner(test);
+    node(alloc, line, StmtKind::DoWhile { body, test })
 }
 
 /// A `do` with its `until`.
@@ -133,14 +121,8 @@ pub fn do_until(
 ) -> Result<Box<Stmt>, Memory>
     ensures { MakesStmt (trees.do_until line (stmt_of body) (tree_of test)) result }
 {
-    boxed(
-        alloc,
-        Stmt::DoUntil {
-            line,
-            body,
-            test: Box::into_inner(test),
-        },
-    )
+    let test = Box::into_inner(test);
+    node(alloc, line, StmtKind::DoUntil { body, test })
 }
 
 /// A `for`.
@@ -153,17 +135,14 @@ pub fn for_do(
     body: Box<Stmt>,
 ) -> Result<Box<Stmt>, Memory>
     ensures { MakesStmt
-        (trees.for_do line (stmt_of start) (stmt_of test) (view_boxed step) (stmt_of body))
+        (trees.for_do line (stmt_of start) (stmt_of test) (view_option step) (stmt_of body))
         result }
 {
-    boxed(
-        alloc,
-        Stmt::For {
-            line,
-            start,
-            test,
-            step: unboxed(step),
-            body,
-        },
-    )
+    let kind = StmtKind::For {
+        start,
+        test,
+        step,
+        body,
+    };
+    node(alloc, line, kind)
 }

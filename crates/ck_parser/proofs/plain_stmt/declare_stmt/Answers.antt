@@ -29,8 +29,8 @@ returns-in_err-rest-clause-reads c =
     (λ k. k (t.declares c.args.line c.args.head
     (declrs_of t.no_declrs c.in_ok-declarators.declarators))) _ c.in_err-rest.ensures.token))
 
-pub returns-in_ok-boxed-clause-reads : goal.returns-in_ok-boxed-clause-reads
-returns-in_ok-boxed-clause-reads c = rw c.in_ok-boxed.ensures
+pub returns-in_ok-stmt-clause-reads : goal.returns-in_ok-stmt-clause-reads
+returns-in_ok-stmt-clause-reads c = rw c.in_ok-stmt.ensures
     (onward (onward (declr_comma c.args.depth c.args.line c.args.head (view_declr c.args.first)
     c.in-Some.ensures.token c.requires) (inside
     (λ k xs. ends c.args.depth (k (t.declares c.args.line c.args.head xs)))

@@ -6,7 +6,7 @@ use Rattle.parse_exprs.proofs.Steps.{onward, inside}
 use Rattle.ck_parser.proofs.plain_stmt.expr_stmt.Goals as goal
 
 pub returns-in-Some-clause-reads : goal.returns-in-Some-clause-reads
-returns-in-Some-clause-reads c = rw c.in_ok-boxed.ensures
+returns-in-Some-clause-reads c = rw c.in_ok-node.ensures
     (made_empty c.args.depth _ c.in-Some.ensures.token c.next_line-line.ensures c.requires)
 
 pub returns-in_err-first-clause-reads : goal.returns-in_err-first-clause-reads

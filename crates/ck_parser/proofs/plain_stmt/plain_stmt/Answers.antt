@@ -31,8 +31,8 @@ returns-in_err-rest-in-Break-clause-reads c =
     (λ k. refl)) (no_sign c.in-Some.behind.now (a_mark m.Semicolon) c.args.depth
     (λ k. k (t.break c.in-Some.token.now.line)) _ c.in_err-rest-in-Break.ensures.token))
 
-pub returns-in_ok-boxed-in-Break-clause-reads : goal.returns-in_ok-boxed-in-Break-clause-reads
-returns-in_ok-boxed-in-Break-clause-reads c = rw c.in_ok-boxed-in-Break.ensures
+pub returns-in_ok-node-in-Break-clause-reads : goal.returns-in_ok-node-in-Break-clause-reads
+returns-in_ok-node-in-Break-clause-reads c = rw c.in_ok-node-in-Break.ensures
     (onward (stmt_first opens_break (λ k. ends c.args.depth
     (k (t.break c.in-Some.token.now.line))) c.args.depth c.in-Some.ensures.token
     (rw c.in-Break.is at c.opening_of.ensures) c.requires.shallow (λ k. refl))
@@ -49,8 +49,8 @@ returns-in_err-rest-in-Continue-clause-reads c =
     (λ k. refl)) (no_sign c.in-Some.behind.now (a_mark m.Semicolon) c.args.depth
     (λ k. k (t.continue c.in-Some.token.now.line)) _ c.in_err-rest-in-Continue.ensures.token))
 
-pub returns-in_ok-boxed-in-Continue-clause-reads : goal.returns-in_ok-boxed-in-Continue-clause-reads
-returns-in_ok-boxed-in-Continue-clause-reads c = rw c.in_ok-boxed-in-Continue.ensures
+pub returns-in_ok-node-in-Continue-clause-reads : goal.returns-in_ok-node-in-Continue-clause-reads
+returns-in_ok-node-in-Continue-clause-reads c = rw c.in_ok-node-in-Continue.ensures
     (onward (stmt_first opens_continue (λ k.
     ends c.args.depth (k (t.continue c.in-Some.token.now.line))) c.args.depth
     c.in-Some.ensures.token (rw c.in-Continue.is at c.opening_of.ensures) c.requires.shallow

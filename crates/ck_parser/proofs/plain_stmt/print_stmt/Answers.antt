@@ -26,7 +26,7 @@ returns-in_err-rest-clause-reads c =
     c.in_err-rest.ensures.token))
 
 pub returns-clause-reads : goal.returns-clause-reads
-returns-clause-reads c = rw c.in_ok-boxed.ensures
+returns-clause-reads c = rw c.in_ok-node.ensures
     (onward (inside (λ k es. ends c.args.depth (k (t.print c.args.line es)))
     c.in_ok-items.ensures.reads) (past_sign (a_mark m.Semicolon) c.args.depth
     (λ k. k (t.print c.args.line (exprs_of t.no_exprs c.in_ok-items.items)))

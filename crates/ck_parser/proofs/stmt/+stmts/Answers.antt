@@ -3,7 +3,6 @@ use Rattle.std.proofs.lemmas.Result.{err_from_is_err_and}
 use Rattle.ck_lexer.specs.declared.mark.Mark.TheVariants as m
 use Rattle.ck_parser.specs.declared.stmt_node.LoopWord.TheVariants as loop_word
 use Rattle.parse_exprs.specs.Machine.{sign, stmts, a_test, a_stmt}
-use Rattle.parse_exprs.specs.Operands.{view_boxed}
 use Rattle.ck_parser.specs.Statements.{tested, after_block, after_do, after_for, after_if}
 use Rattle.ck_parser.specs.Statements.{after_loop, loop_of, do_end, for_head}
 use Rattle.parse_exprs.specs.Tokens.{a_mark, opens_block, opens_if, opens_while, opens_until}
@@ -14,7 +13,7 @@ use Rattle.ck_parser.proofs.MadeStmt.{fault_deeper, stmts_deeper, if_rest, with_
 use Rattle.ck_parser.proofs.MadeStmt.{no_else}
 use Rattle.parse_exprs.proofs.Steps.{onward, inside, stops_inside, stops_onward, past_sign, no_sign}
 use Rattle.ck_syntax.specs.Tree as t
-use Rattle.ck_syntax.specs.View.{view_expr, view_stmt, stmts_of}
+use Rattle.ck_syntax.specs.View.{view_expr, view_option, view_stmt, stmts_of}
 use Rattle.ck_syntax.proofs.Views.{stmts_of-append}
 use Rattle.ck_parser.proofs.stmt.+stmts.Goals as goal
 
@@ -170,7 +169,7 @@ for_stmt-returns-in_err-body-clause-reads r c =
     c.from_residual-in_err-body.ensures.1 in
     rw (p.1, p.2) (stops_in _ (λ k. a_stmt (suc c.args.depth) k)
     (λ k s. k (t.for_do c.args.line (view_stmt c.in_ok-start.start.value)
-    (view_stmt c.in_ok-start.test.value) (view_boxed c.in_ok-start.step) s)) c.args.tokens.now
+    (view_stmt c.in_ok-start.test.value) (view_option c.in_ok-start.step) s)) c.args.tokens.now
     c.in_ok-start.behind.now _ (inside (λ k x y e.
     a_stmt (suc c.args.depth) (λ s. k (t.for_do c.args.line x y e s)))
     c.in_ok-start.ensures.reads) c.in_err-body.ensures.reads)
@@ -180,7 +179,7 @@ for_stmt-returns-clause-reads r c = rw c.in_ok-for_do.ensures
     (onward (inside (λ k x y e. a_stmt (suc c.args.depth)
     (λ s. k (t.for_do c.args.line x y e s))) c.in_ok-start.ensures.reads)
     (inside (λ k s. k (t.for_do c.args.line (view_stmt c.in_ok-start.start.value)
-    (view_stmt c.in_ok-start.test.value) (view_boxed c.in_ok-start.step) s))
+    (view_stmt c.in_ok-start.test.value) (view_option c.in_ok-start.step) s))
     c.in_ok-body.ensures.reads))
 
 pub block-returns-in_err-stmts-clause-reads : goal.block-returns-in_err-stmts-clause-reads
