@@ -3,16 +3,15 @@ use Rattle.std.proofs.Common.{◌≡◌, ℕ, ◌+◌, ◌<◌, ◌≤◌, List,
 use Rattle.std.proofs.lemmas.List.{drop_more}
 use Rattle.ck_syntax.specs.declared.declaration.Base.{Base}
 use Rattle.ck_syntax.specs.declared.declaration.DeclHead.{DeclHead}
-use Rattle.ck_syntax.specs.declared.expr.Bracket.{Bracket}
-use Rattle.ck_syntax.specs.declared.expr.Bracket.TheVariants as bracket
+use Rattle.ck_syntax.specs.declared.expr.Bracket.{Bracket, Empty, Size'}
 use Rattle.ck_syntax.specs.declared.expr.Declarator.{Declarator}
 use Rattle.ck_syntax.specs.declared.expr.Expr.{Expr}
-use Rattle.ck_syntax.specs.declared.expr.Expr.TheVariants as raw
+use Rattle.ck_syntax.specs.declared.expr.ExprKind.TheVariants as raw
 use Rattle.ck_syntax.specs.declared.file.Item.{Item}
 use Rattle.ck_syntax.specs.declared.file.Member.{Member}
 use Rattle.ck_syntax.specs.Size.{head_size, expr_size, exprs_size, before_comma, bracketed_size, brackets_size, declr_size, declrs_size, declrs_before_comma, member_size, members_size, item_size, items_size}
 use Rattle.ck_syntax.specs.Tree.{Exprs, no_exprs, and_expr, Brackets, no_brackets, and_empty, and_size, Declrs, no_declrs, and_declr, Members, no_members, and_member, File, no_items, and_item}
-use Rattle.ck_syntax.specs.View.{view_expr, exprs_of, with_bracket, brackets_of, view_declr, declrs_of, view_member, members_of, view_item, items_of}
+use Rattle.ck_syntax.specs.View.{view_expr, view_kind, exprs_of, with_bracket, brackets_of, view_declr, declrs_of, view_member, members_of, view_item, items_of}
 use Rattle.ck_syntax.proofs.Views.{view-Array, view-Call, view-New, view-Declare}
 
 -- the sizes of all items together
@@ -61,9 +60,9 @@ one_bracket b = brackets_size (with_bracket no_brackets b)
 brackets_behind : (before : Brackets) (bs : List Bracket)
     → brackets_size before + weight one_bracket bs ≤ brackets_size (brackets_of before bs)
 brackets_behind before [] = omega arith
-brackets_behind before (bracket.Empty ∷ bs) = omega (arith, brackets_behind (and_empty before) bs)
-brackets_behind before (bracket.Size e ∷ bs) =
-    omega (arith, brackets_behind (and_size before (view_expr e)) bs)
+brackets_behind before (Empty ∷ bs) = omega (arith, brackets_behind (and_empty before) bs)
+brackets_behind before (Size' l k ∷ bs) =
+    omega (arith, brackets_behind (and_size before (view_kind l k)) bs)
 
 pub brackets_weigh : (bs : List Bracket)
     → weight one_bracket bs ≤ brackets_size (brackets_of no_brackets bs)
@@ -88,23 +87,25 @@ declrs_weigh ds = omega (arith, declrs_behind no_declrs ds)
 
 -- an expression that holds a list has that list's size and its own tokens
 module _ (e : Expr) where
-  pub array_size : (l : ℕ) (es : List Expr) → e ≡ raw.Array l es
+  pub array_size : (es : List Expr) → e.kind ≡ raw.Array es
       → expr_size (view_expr e) ≡ exprs_size (exprs_of no_exprs es) + 2
-  array_size l es is = ap (λ x. expr_size (view_expr x)) is ∙ ap expr_size (view-Array l es)
+  array_size es is =
+      ap (λ k. expr_size (view_kind e.line k)) is ∙ ap expr_size (view-Array e.line es)
 
-  pub call_size : (l : ℕ) (callee : Box Expr Global) (es : List Expr) → e ≡ raw.Call l callee es
+  pub call_size : (callee : Box Expr Global) (es : List Expr) → e.kind ≡ raw.Call callee es
       → expr_size (view_expr e) ≡ expr_size (view_expr callee.value) + exprs_size (exprs_of no_exprs es) + 2
-  call_size l callee es is =
-      ap (λ x. expr_size (view_expr x)) is ∙ ap expr_size (view-Call l callee es)
+  call_size callee es is =
+      ap (λ k. expr_size (view_kind e.line k)) is ∙ ap expr_size (view-Call e.line callee es)
 
-  pub new_size : (l : ℕ) (b : Base) (es : List Expr) → e ≡ raw.New l b es
+  pub new_size : (b : Base) (es : List Expr) → e.kind ≡ raw.New b es
       → expr_size (view_expr e) ≡ bracketed_size (exprs_of no_exprs es) + 2
-  new_size l b es is = ap (λ x. expr_size (view_expr x)) is ∙ ap expr_size (view-New l b es)
+  new_size b es is =
+      ap (λ k. expr_size (view_kind e.line k)) is ∙ ap expr_size (view-New e.line b es)
 
-  pub declare_size : (l : ℕ) (h : DeclHead) (x : Declarator) → e ≡ raw.Declare l h x
-      → expr_size (view_expr e) ≡ head_size h + declr_size (view_declr x)
-  declare_size l h x is =
-      ap (λ y. expr_size (view_expr y)) is ∙ ap expr_size (view-Declare l h x)
+  pub declare_size : (h : DeclHead) (x : Box Declarator Global) → e.kind ≡ raw.Declare h x
+      → expr_size (view_expr e) ≡ head_size h + declr_size (view_declr x.value)
+  declare_size h x is =
+      ap (λ k. expr_size (view_kind e.line k)) is ∙ ap expr_size (view-Declare e.line h x)
 
 -- members and items -----------------------------------------------------------------------------
 
