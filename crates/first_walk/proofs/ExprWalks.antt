@@ -1,14 +1,13 @@
 -- The walks over expressions and brackets.
 use Rattle.std.proofs.Common.{◌≡◌, ℕ, List, [], ◌∷◌, Option, Box, Global, refl, ap, ◌∙◌}
-use Rattle.ck_syntax.specs.declared.expr.Bracket.{Bracket}
-use Rattle.ck_syntax.specs.declared.expr.Bracket.TheVariants.{Empty, Size}
+use Rattle.ck_syntax.specs.declared.expr.Bracket.{Bracket, Empty, Size'}
 use Rattle.ck_syntax.specs.declared.declaration.Base.{Base}
 use Rattle.ck_syntax.specs.declared.declaration.DeclHead.{DeclHead}
 use Rattle.ck_syntax.specs.declared.expr.Declarator.{Declarator}
 use Rattle.ck_syntax.specs.declared.expr.Expr.{Expr}
-use Rattle.ck_syntax.specs.declared.expr.Expr.TheVariants as raw
+use Rattle.ck_syntax.specs.declared.expr.ExprKind.TheVariants as raw
 use Rattle.ck_syntax.specs.Tree.{Exprs, no_exprs, and_expr, Brackets, no_brackets, and_empty, and_size, Declrs, and_declr}
-use Rattle.ck_syntax.specs.View.{view_expr, exprs_of, brackets_of, view_declr, declrs_of}
+use Rattle.ck_syntax.specs.View.{view_expr, view_kind, exprs_of, brackets_of, view_declr, declrs_of}
 use Rattle.ck_syntax.proofs.Views.{view-Array, view-Call, view-New, view-Declare}
 use Rattle.type_table.specs.Answer.{Answer, gives, and_then, refused}
 use Rattle.type_table.specs.Table.{Table}
@@ -17,19 +16,26 @@ use Rattle.first_walk.specs.FirstWalk.{enter_expr, enter_exprs, enter_brackets, 
 use Rattle.type_table.proofs.Walks.{run, on}
 
 module _ (f : ℕ) (o : Option ℕ) (t : Table) (e : Expr) where
-  pub array_is : (l : ℕ) (es : List Expr) → e ≡ raw.Array l es → enter_expr f o t (view_expr e) ≡ enter_exprs f o t (exprs_of no_exprs es)
-  array_is l es is = ap (λ x. enter_expr f o t (view_expr x)) is ∙ ap (enter_expr f o t) (view-Array l es)
+  pub array_is : (es : List Expr) → e.kind ≡ raw.Array es
+      → enter_expr f o t (view_expr e) ≡ enter_exprs f o t (exprs_of no_exprs es)
+  array_is es is = ap (λ k. enter_expr f o t (view_kind e.line k)) is ∙ ap (enter_expr f o t) (view-Array e.line es)
 
-  pub new_is : (l : ℕ) (b : Base) (es : List Expr) → e ≡ raw.New l b es → enter_expr f o t (view_expr e) ≡ enter_exprs f o t (exprs_of no_exprs es)
-  new_is l b es is = ap (λ x. enter_expr f o t (view_expr x)) is ∙ ap (enter_expr f o t) (view-New l b es)
+  pub new_is : (b : Base) (es : List Expr) → e.kind ≡ raw.New b es
+      → enter_expr f o t (view_expr e) ≡ enter_exprs f o t (exprs_of no_exprs es)
+  new_is b es is = ap (λ k. enter_expr f o t (view_kind e.line k)) is ∙ ap (enter_expr f o t) (view-New e.line b es)
 
-  pub call_is : (l : ℕ) (callee : Box Expr Global) (es : List Expr) → e ≡ raw.Call l callee es
-      → enter_expr f o t (view_expr e) ≡ and_then (enter_expr f o t (view_expr callee.value)) (λ u. enter_exprs f o u (exprs_of no_exprs es))
-  call_is l callee es is = ap (λ x. enter_expr f o t (view_expr x)) is ∙ ap (enter_expr f o t) (view-Call l callee es)
+  pub call_is : (callee : Box Expr Global) (es : List Expr) → e.kind ≡ raw.Call callee es
+      → enter_expr f o t (view_expr e)
+      ≡ and_then (enter_expr f o t (view_expr callee.value)) (λ u. enter_exprs f o u (exprs_of no_exprs es))
+  call_is callee es is =
+      ap (λ k. enter_expr f o t (view_kind e.line k)) is ∙ ap (enter_expr f o t) (view-Call e.line callee es)
 
-  pub declare_is : (l : ℕ) (h : DeclHead) (x : Declarator) → e ≡ raw.Declare l h x
-      → enter_expr f o t (view_expr e) ≡ and_then (enter_brackets f o t (brackets_of no_brackets x.brackets)) (λ u. enter_declared u f l o h x.name (brackets_of no_brackets x.brackets))
-  declare_is l h x is = ap (λ y. enter_expr f o t (view_expr y)) is ∙ ap (enter_expr f o t) (view-Declare l h x)
+  pub declare_is : (h : DeclHead) (x : Box Declarator Global) → e.kind ≡ raw.Declare h x
+      → enter_expr f o t (view_expr e)
+      ≡ and_then (enter_brackets f o t (brackets_of no_brackets x.value.brackets))
+      (λ u. enter_declared u f e.line o h x.value.name (brackets_of no_brackets x.value.brackets))
+  declare_is h x is =
+      ap (λ k. enter_expr f o t (view_kind e.line k)) is ∙ ap (enter_expr f o t) (view-Declare e.line h x)
 
 same : {A : Type 0} (a : Answer A) → a ≡ and_then a gives
 same (gives a) = refl
@@ -39,19 +45,26 @@ module _ (f : ℕ) (o : Option ℕ) where
   abbrev pub one_expr : Table → Expr → Answer Table
   one_expr u e = enter_expr f o u (view_expr e)
 
-  pub exprs_run : (t : Table) (before : Exprs) (es : List Expr) → enter_exprs f o t (exprs_of before es) ≡ run (on one_expr) (enter_exprs f o t before) es
+  pub exprs_run : (t : Table) (before : Exprs) (es : List Expr)
+      → enter_exprs f o t (exprs_of before es) ≡ run (on one_expr) (enter_exprs f o t before) es
   exprs_run t before [] = refl
   exprs_run t before (e ∷ es) = exprs_run t (and_expr before (view_expr e)) es
 
-  pub brackets_run : (t : Table) (before : Brackets) (bs : List Bracket) → enter_brackets f o t (brackets_of before bs) ≡ run (on (bracket_entered f o)) (enter_brackets f o t before) bs
+  pub brackets_run : (t : Table) (before : Brackets) (bs : List Bracket)
+      → enter_brackets f o t (brackets_of before bs)
+      ≡ run (on (bracket_entered f o)) (enter_brackets f o t before) bs
   brackets_run t before [] = refl
-  brackets_run t before (Empty ∷ bs) = brackets_run t (and_empty before) bs ∙ ap (λ a. run (on (bracket_entered f o)) a bs) (same (enter_brackets f o t before))
-  brackets_run t before (Size e ∷ bs) = brackets_run t (and_size before (view_expr e)) bs
+  brackets_run t before (Empty ∷ bs) =
+      brackets_run t (and_empty before) bs
+      ∙ ap (λ a. run (on (bracket_entered f o)) a bs) (same (enter_brackets f o t before))
+  brackets_run t before (Size' l k ∷ bs) = brackets_run t (and_size before (view_kind l k)) bs
 
 module _ (f l : ℕ) (o : Option ℕ) (h : DeclHead) where
   abbrev pub one_declr : Table → Declarator → Answer Table
   one_declr u x = declr_entered f l o h u (view_declr x)
 
-  pub declrs_run : (t : Table) (before : Declrs) (xs : List Declarator) → enter_declrs f l o h t (declrs_of before xs) ≡ run (on one_declr) (enter_declrs f l o h t before) xs
+  pub declrs_run : (t : Table) (before : Declrs) (xs : List Declarator)
+      → enter_declrs f l o h t (declrs_of before xs)
+      ≡ run (on one_declr) (enter_declrs f l o h t before) xs
   declrs_run t before [] = refl
   declrs_run t before (x ∷ xs) = declrs_run t (and_declr before (view_declr x)) xs

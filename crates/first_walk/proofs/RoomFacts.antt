@@ -3,11 +3,10 @@
 use Rattle.std.proofs.Common.{◌≡◌, ℕ, ◌+◌, ◌*◌, ◌≤◌, Bool, true, false, not, ◌||◌, List, Option, Some, None, slice_set, if◌then◌else◌, arith}
 use Rattle.ck_values.specs.declared.kind.Kind.{Kind}
 use Rattle.ck_syntax.specs.declared.declaration.DeclHead.{DeclHead}
-use Rattle.ck_syntax.specs.declared.expr.Bracket.{Bracket}
-use Rattle.ck_syntax.specs.declared.expr.Bracket.TheVariants.{Empty, Size}
+use Rattle.ck_syntax.specs.declared.expr.Bracket.{Bracket, Empty, Size'}
 use Rattle.ck_syntax.specs.Size.{expr_size, exprs_size, brackets_size, declr_size, declrs_size, option_size, stmt_size, fun_size, member_size, members_size, class_size, item_size, items_size}
 use Rattle.ck_syntax.specs.Tree as tree
-use Rattle.ck_syntax.specs.View.{view_expr}
+use Rattle.ck_syntax.specs.View.{view_kind}
 use Rattle.ck_syntax.specs.Tree.{Name, Expr, Exprs, no_exprs, and_expr, Brackets, no_brackets, and_empty, and_size, Declr, Declrs, no_declrs, and_declr, declr, Stmt, Fun, fun, Member, fun_member, stmt_member, Members, no_members, and_member, class, Item, class_item, fun_item, stmt_item, no_items, and_item}
 use Rattle.type_rules.specs.Fitting.{is_below}
 use Rattle.type_table.specs.declared.class.Dispatch.{Dispatch}
@@ -234,7 +233,7 @@ module _ (m : Table → ℕ) (is_measure : IsMeasure m) (f : ℕ) where
     bracket_up : (n : ℕ) (t : Table) (b : Bracket) → m t + weights.one_bracket b ≤ n
         → UpTo n (bracket_entered f o t b)
     bracket_up n t Empty le = omega (arith, le)
-    bracket_up n t (Size e) le = expr_up n t (view_expr e) (omega (arith, le))
+    bracket_up n t (Size' l k) le = expr_up n t (view_kind l k) (omega (arith, le))
 
     declr_up : (n : ℕ) (l : ℕ) (h : DeclHead) (t : Table) (d : Declr) → m t + declr_size d ≤ n
         → UpTo n (declr_entered f l o h t d)

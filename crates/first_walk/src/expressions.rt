@@ -10,7 +10,7 @@ ghost use Rattle.first_walk.specs.Steps.{bracket_entered};
 ghost use Rattle.first_walk.specs.FirstWalk.{enter_expr as expr_entered, enter_exprs as exprs_entered, enter_brackets as brackets_entered, enter_declared as declared_entered};
 
 use crate::declarations::enter_declared;
-use ck_syntax::{Bracket, DeclHead, Declarator, Expr};
+use ck_syntax::{Bracket, DeclHead, Declarator, Expr, ExprKind};
 use std::alloc::Global;
 use type_table::{Table, TypeFault};
 
@@ -30,45 +30,40 @@ pub(crate) fn enter_expr(
     ensures refused { IfErr result
         (λ why. IsFault why → expr_entered file owner table.old (view_expr e.now) ≡ fault why) }
 {
-    match e {
-        Expr::Int { .. }
-        | Expr::Float { .. }
-        | Expr::Text { .. }
-        | Expr::Name { .. }
-        | Expr::Constant { .. }
-        | Expr::Unit { .. } => Ok(()),
-        Expr::Paren { inner: e, .. }
-        | Expr::Member { object: e, .. }
-        | Expr::Postfix { operand: e, .. }
-        | Expr::Prefix { operand: e, .. }
-        | Expr::Spork { call: e, .. }
-        | Expr::Cast { value: e, .. } => enter_expr(alloc, table, file, owner, e),
-        Expr::Index { array, index, .. } => enter_both(alloc, table, file, owner, array, index),
-        Expr::Dur { count, unit, .. } => enter_both(alloc, table, file, owner, count, unit),
-        Expr::Binary { left, right, .. } | Expr::Chuck { left, right, .. } => {
+    match &e.kind {
+        ExprKind::Int(_)
+        | ExprKind::Float(_)
+        | ExprKind::Text(_)
+        | ExprKind::Name(_)
+        | ExprKind::Constant(_)
+        | ExprKind::Unit(_) => Ok(()),
+        ExprKind::Paren(e)
+        | ExprKind::Member { object: e, .. }
+        | ExprKind::Postfix { operand: e, .. }
+        | ExprKind::Prefix { operand: e, .. }
+        | ExprKind::Spork(e)
+        | ExprKind::Cast { value: e, .. } => enter_expr(alloc, table, file, owner, e),
+        ExprKind::Index { array, index } => enter_both(alloc, table, file, owner, array, index),
+        ExprKind::Dur { count, unit } => enter_both(alloc, table, file, owner, count, unit),
+        ExprKind::Binary { left, right, .. } | ExprKind::Chuck { left, right, .. } => {
             enter_both(alloc, table, file, owner, left, right)
         }
-        Expr::Cond {
+        ExprKind::Cond {
             test,
             then,
             otherwise,
-            ..
         } => {
             enter_expr(alloc, table, file, owner, test)?;
             enter_both(alloc, table, file, owner, then, otherwise)
         }
-        Expr::Array { items, .. } => enter_exprs(alloc, table, file, owner, items.items()),
-        Expr::New { sizes, .. } => enter_exprs(alloc, table, file, owner, sizes.items()),
-        Expr::Call {
-            callee,
-            arguments,
-            ..
-        } => enter_call(alloc, table, file, owner, arguments.items(), callee),
-        Expr::Declare {
-            line,
-            head,
-            declarator,
-        } => enter_declaration(alloc, table, file, *line, owner, head, declarator),
+        ExprKind::Array(items) => enter_exprs(alloc, table, file, owner, items.items()),
+        ExprKind::New { sizes, .. } => enter_exprs(alloc, table, file, owner, sizes.items()),
+        ExprKind::Call { callee, arguments } => {
+            enter_call(alloc, table, file, owner, arguments.items(), callee)
+        }
+        ExprKind::Declare { head, declarator } => {
+            enter_declaration(alloc, table, file, e.line, owner, head, declarator)
+        }
     }
 }
 

@@ -11,7 +11,7 @@ ghost use Rattle.first_walk.specs.FirstWalk.{enter_declrs as declrs_entered, ent
 
 use crate::declarations::enter_declared;
 use crate::expressions::{enter_brackets, enter_expr, enter_exprs};
-use ck_syntax::{DeclHead, Declarator, Expr, Stmt};
+use ck_syntax::{DeclHead, Declarator, Expr, Stmt, StmtKind};
 use std::alloc::Global;
 use type_table::{Table, TypeFault};
 
@@ -73,7 +73,7 @@ fn enter_option(
     table: &mut Table,
     file: u32,
     owner: Option<u32>,
-    e: &Option<Expr>,
+    e: &Option<Box<Expr>>,
 ) -> Result<(), TypeFault>
     requires room { entries table.old + option_size (view_option e.now) < 2 ^ 32 }
     requires own { declared_by owner table.old + option_size (view_option e.now) ≤ MAX_FILE_TOKENS }
@@ -105,26 +105,24 @@ pub(crate) fn enter_stmt(
     ensures refused { IfErr result
         (λ why. IsFault why → stmt_entered file owner table.old (view_stmt s.now) ≡ fault why) }
 {
-    match s {
-        Stmt::Expr { expr: e, .. }
-        | Stmt::If { test: e, .. }
-        | Stmt::IfElse { test: e, .. }
-        | Stmt::While { test: e, .. }
-        | Stmt::Until { test: e, .. }
-        | Stmt::DoWhile { test: e, .. }
-        | Stmt::DoUntil { test: e, .. }
-        | Stmt::Repeat { count: e, .. } => enter_expr(alloc, table, file, owner, e),
-        Stmt::Declare {
-            line,
-            head,
-            declarators,
-        } => enter_declarators(alloc, table, file, *line, owner, head, declarators.items()),
-        Stmt::Print { items, .. } => enter_exprs(alloc, table, file, owner, items.items()),
-        Stmt::Return { value, .. } => enter_option(alloc, table, file, owner, value),
-        Stmt::Block { .. }
-        | Stmt::Empty { .. }
-        | Stmt::For { .. }
-        | Stmt::Break { .. }
-        | Stmt::Continue { .. } => Ok(()),
+    match &s.kind {
+        StmtKind::Expr(e)
+        | StmtKind::If { test: e, .. }
+        | StmtKind::IfElse { test: e, .. }
+        | StmtKind::While { test: e, .. }
+        | StmtKind::Until { test: e, .. }
+        | StmtKind::DoWhile { test: e, .. }
+        | StmtKind::DoUntil { test: e, .. }
+        | StmtKind::Repeat { count: e, .. } => enter_expr(alloc, table, file, owner, e),
+        StmtKind::Declare { head, declarators } => {
+            enter_declarators(alloc, table, file, s.line, owner, head, declarators.items())
+        }
+        StmtKind::Print(items) => enter_exprs(alloc, table, file, owner, items.items()),
+        StmtKind::Return(value) => enter_option(alloc, table, file, owner, value),
+        StmtKind::Block(_)
+        | StmtKind::Empty
+        | StmtKind::For { .. }
+        | StmtKind::Break
+        | StmtKind::Continue => Ok(()),
     }
 }

@@ -38,42 +38,42 @@ enter_brackets-returns-clause-entered t c =
 
 pub enter_expr-returns-in-Array-clause-entered : goal.enter_expr-returns-in-Array-clause-entered
 enter_expr-returns-in-Array-clause-entered t c =
-    let is = array_is c.args.file c.args.owner c.args.table.now c.args.e.now _ _ c.in-Array.is in
+    let is = array_is c.args.file c.args.owner c.args.table.now c.args.e.now _ c.in-Array.is in
     search (rules, is)
 
 pub enter_expr-returns-in-New-clause-entered : goal.enter_expr-returns-in-New-clause-entered
 enter_expr-returns-in-New-clause-entered t c =
-    let is = new_is c.args.file c.args.owner c.args.table.now c.args.e.now _ _ _ c.in-New.is in
+    let is = new_is c.args.file c.args.owner c.args.table.now c.args.e.now _ _ c.in-New.is in
     search (rules, is)
 
 pub enter_expr-returns-in-Call-clause-entered : goal.enter_expr-returns-in-Call-clause-entered
 enter_expr-returns-in-Call-clause-entered t c =
-    let is = call_is c.args.file c.args.owner c.args.table.now c.args.e.now _ _ _ c.in-Call.is in
+    let is = call_is c.args.file c.args.owner c.args.table.now c.args.e.now _ _ c.in-Call.is in
     search (rules, is)
 
 pub enter_expr-returns-in-Declare-clause-entered : goal.enter_expr-returns-in-Declare-clause-entered
 enter_expr-returns-in-Declare-clause-entered t c =
-    let is = declare_is c.args.file c.args.owner c.args.table.now c.args.e.now _ _ _ c.in-Declare.is in
+    let is = declare_is c.args.file c.args.owner c.args.table.now c.args.e.now _ _ c.in-Declare.is in
     search (rules, is)
 
 pub enter_expr-returns-in-Array-clause-refused : goal.enter_expr-returns-in-Array-clause-refused
 enter_expr-returns-in-Array-clause-refused t c =
-    let is = array_is c.args.file c.args.owner c.args.table.now c.args.e.now _ _ c.in-Array.is in
+    let is = array_is c.args.file c.args.owner c.args.table.now c.args.e.now _ c.in-Array.is in
     search (rules, is)
 
 pub enter_expr-returns-in-New-clause-refused : goal.enter_expr-returns-in-New-clause-refused
 enter_expr-returns-in-New-clause-refused t c =
-    let is = new_is c.args.file c.args.owner c.args.table.now c.args.e.now _ _ _ c.in-New.is in
+    let is = new_is c.args.file c.args.owner c.args.table.now c.args.e.now _ _ c.in-New.is in
     search (rules, is)
 
 pub enter_expr-returns-in-Call-clause-refused : goal.enter_expr-returns-in-Call-clause-refused
 enter_expr-returns-in-Call-clause-refused t c =
-    let is = call_is c.args.file c.args.owner c.args.table.now c.args.e.now _ _ _ c.in-Call.is in
+    let is = call_is c.args.file c.args.owner c.args.table.now c.args.e.now _ _ c.in-Call.is in
     search (rules, is)
 
 pub enter_expr-returns-in-Declare-clause-refused : goal.enter_expr-returns-in-Declare-clause-refused
 enter_expr-returns-in-Declare-clause-refused t c =
-    let is = declare_is c.args.file c.args.owner c.args.table.now c.args.e.now _ _ _ c.in-Declare.is in
+    let is = declare_is c.args.file c.args.owner c.args.table.now c.args.e.now _ _ c.in-Declare.is in
     search (rules, is)
 
 -- there is room for each part
@@ -203,22 +203,22 @@ enter_call-enter_exprs-requires t c = (
 
 pub enter_expr-enter_exprs-requires : goal.enter_expr-enter_exprs-requires
 enter_expr-enter_exprs-requires t c =
-    let is = array_size c.args.e.now _ _ c.in-Array.is in
+    let is = array_size c.args.e.now _ c.in-Array.is in
     (search (rules, the_lemmas), (grind (arith, is), grind (arith, is)))
 
 pub enter_expr-enter_exprs-requires-in-New : goal.enter_expr-enter_exprs-requires-in-New
 enter_expr-enter_exprs-requires-in-New t c =
-    let is = new_size c.args.e.now _ _ _ c.in-New.is in
+    let is = new_size c.args.e.now _ _ c.in-New.is in
     (search (rules, the_lemmas), (grind (arith, is, bracketed_more), grind (arith, is, bracketed_more)))
 
 pub enter_expr-enter_call-requires : goal.enter_expr-enter_call-requires
 enter_expr-enter_call-requires t c =
-    let is = call_size c.args.e.now _ _ _ c.in-Call.is in
+    let is = call_size c.args.e.now _ _ c.in-Call.is in
     (search (rules, the_lemmas), (grind (arith, is), grind (arith, is)))
 
 pub enter_expr-enter_declaration-requires : goal.enter_expr-enter_declaration-requires
 enter_expr-enter_declaration-requires t c =
-    let is = declare_size c.args.e.now _ _ _ c.in-Declare.is in
+    let is = declare_size c.args.e.now _ _ c.in-Declare.is in
     (search (rules, the_lemmas), (grind (arith, is), grind (arith, is)))
 
 pub enter_expr-enter_both-requires-in-Cond : goal.enter_expr-enter_both-requires-in-Cond
