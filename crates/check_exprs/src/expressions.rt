@@ -1,4 +1,6 @@
 //! Whole expressions: operands come first, from left to right, and then the expression itself.
+#![tactic(auto, using(ck_syntax::proofs::Views::line_is))]
+
 ghost use Rattle.std.specs.Prelude.{◌≡◌, ◌+◌, ◌^◌, ◌<◌, ◌≤◌, None, Some, length, IsSome, IfOk, IfErr};
 ghost use Rattle.ck_syntax.specs.Size.{expr_size, exprs_size, brackets_size, declr_size};
 ghost use Rattle.ck_syntax.specs.Tree as tree;
@@ -18,9 +20,7 @@ use check_operations::{
 };
 use check_scope::{Denoted, Scope, Typed, as_value, boxed, push};
 use ck_base::{List, Text};
-use ck_syntax::{
-    Base, BinaryOp, Bracket, ChuckOp, DeclHead, Declarator, Expr, PostfixOp, PrefixOp, TypeName,
-};
+use ck_syntax::{Base, BinaryOp, Bracket, ChuckOp, DeclHead, Declarator, Expr, ExprKind, TypeName};
 use std::alloc::Global;
 use type_table::{FaultKind, Table, TypeFault};
 
@@ -37,23 +37,23 @@ fn meaning(alloc: Global, table: &Table, scope: &mut Scope, e: &Expr) -> Result<
     ensures grown { length scope.new.locals ≤ length scope.old.locals
         + expr_size (view_expr e.now) }
 {
-    match e {
-        Expr::Call {
+    match &e.kind {
+        ExprKind::Call {
             callee: operand,
             ..
         }
-        | Expr::Index { array: operand, .. }
-        | Expr::Member {
+        | ExprKind::Index { array: operand, .. }
+        | ExprKind::Member {
             object: operand,
             ..
         }
-        | Expr::Postfix { operand, .. }
-        | Expr::Dur { count: operand, .. }
-        | Expr::Prefix { operand, .. }
-        | Expr::Cast { value: operand, .. }
-        | Expr::Binary { left: operand, .. }
-        | Expr::Cond { test: operand, .. }
-        | Expr::Chuck { left: operand, .. } => {
+        | ExprKind::Postfix { operand, .. }
+        | ExprKind::Dur { count: operand, .. }
+        | ExprKind::Prefix { operand, .. }
+        | ExprKind::Cast { value: operand, .. }
+        | ExprKind::Binary { left: operand, .. }
+        | ExprKind::Cond { test: operand, .. }
+        | ExprKind::Chuck { left: operand, .. } => {
             let first = meaning(alloc, table, scope, operand)?;
             behind(alloc, table, scope, e, first)
         }
@@ -72,34 +72,33 @@ fn apart(alloc: Global, table: &Table, scope: &mut Scope, e: &Expr) -> Result<De
     ensures grown { length scope.new.locals ≤ length scope.old.locals
         + expr_size (view_expr e.now) }
 {
-    match e {
-        Expr::Int { line, value } => Ok(Denoted::Value(int(alloc, scope, *line, *value)?)),
-        Expr::Float { line, value } => Ok(Denoted::Value(float(alloc, scope, *line, *value)?)),
-        Expr::Text { line, value } => Ok(Denoted::Value(text(alloc, scope, *line, value)?)),
-        Expr::Name { line, name } => name_meaning(alloc, table, scope, *line, name),
-        Expr::Constant { line, constant } => {
-            Ok(Denoted::Value(word_meaning(alloc, table, scope, *line, *constant)?))
+    let line = e.line;
+    match &e.kind {
+        ExprKind::Int(value) => Ok(Denoted::Value(int(alloc, scope, line, *value)?)),
+        ExprKind::Float(value) => Ok(Denoted::Value(float(alloc, scope, line, *value)?)),
+        ExprKind::Text(value) => Ok(Denoted::Value(text(alloc, scope, line, value)?)),
+        ExprKind::Name(name) => name_meaning(alloc, table, scope, line, name),
+        ExprKind::Constant(constant) => {
+            Ok(Denoted::Value(word_meaning(alloc, table, scope, line, *constant)?))
         }
-        Expr::Unit { line, unit: u } => Ok(Denoted::Value(unit(alloc, scope, *line, *u)?)),
-        Expr::Paren { line, inner } => paren(alloc, table, scope, *line, inner),
-        Expr::Array { line, items } => array(alloc, table, scope, *line, items.items()),
-        Expr::New { line, base, sizes } => new(alloc, table, scope, *line, base, sizes.items()),
-        Expr::Spork { line, call } => spork(alloc, table, scope, *line, call),
-        Expr::Declare {
-            line,
-            head,
-            declarator,
-        } => declare(alloc, table, scope, *line, head, declarator),
-        Expr::Call { .. }
-        | Expr::Index { .. }
-        | Expr::Member { .. }
-        | Expr::Postfix { .. }
-        | Expr::Dur { .. }
-        | Expr::Prefix { .. }
-        | Expr::Cast { .. }
-        | Expr::Binary { .. }
-        | Expr::Cond { .. }
-        | Expr::Chuck { .. } => unreachable!(),
+        ExprKind::Unit(u) => Ok(Denoted::Value(unit(alloc, scope, line, *u)?)),
+        ExprKind::Paren(inner) => paren(alloc, table, scope, line, inner),
+        ExprKind::Array(items) => array(alloc, table, scope, line, items.items()),
+        ExprKind::New { base, sizes } => new(alloc, table, scope, line, base, sizes.items()),
+        ExprKind::Spork(call) => spork(alloc, table, scope, line, call),
+        ExprKind::Declare { head, declarator } => {
+            declare(alloc, table, scope, line, head, declarator)
+        }
+        ExprKind::Call { .. }
+        | ExprKind::Index { .. }
+        | ExprKind::Member { .. }
+        | ExprKind::Postfix { .. }
+        | ExprKind::Dur { .. }
+        | ExprKind::Prefix { .. }
+        | ExprKind::Cast { .. }
+        | ExprKind::Binary { .. }
+        | ExprKind::Cond { .. }
+        | ExprKind::Chuck { .. } => unreachable!(),
     }
 }
 
@@ -124,67 +123,53 @@ fn behind(
         → length scope.new.locals + expr_size operand
         ≤ length scope.old.locals + expr_size (view_expr e.now) }
 {
-    match e {
-        Expr::Call {
-            line,
+    let line = e.line;
+    match &e.kind {
+        ExprKind::Call {
             callee: _,
             arguments,
-        } => call(alloc, table, scope, *line, first, arguments.items()),
-        Expr::Index { line, array, index } => item(alloc, table, scope, *line, array, first, index),
-        Expr::Member { line, object, name } => {
-            member(alloc, table, scope, *line, object, first, name)
-        }
-        Expr::Postfix {
-            line,
+        } => call(alloc, table, scope, line, first, arguments.items()),
+        ExprKind::Index { array, index } => item(alloc, table, scope, line, array, first, index),
+        ExprKind::Member { object, name } => member(alloc, table, scope, line, object, first, name),
+        ExprKind::Postfix {
             operand: _,
             operator,
         } => {
-            let step = postfix_meaning(alloc, scope, *line, *operator, first)?;
+            let step = postfix_meaning(alloc, scope, line, *operator, first)?;
             Ok(Denoted::Value(step))
         }
-        Expr::Dur { line, count, unit } => dur(alloc, table, scope, *line, count, first, unit),
-        Expr::Prefix {
-            line,
-            operator,
-            operand,
-        } => {
-            let prefix = prefix_meaning(alloc, scope, *line, operand.line(), *operator, first)?;
+        ExprKind::Dur { count, unit } => dur(alloc, table, scope, line, count, first, unit),
+        ExprKind::Prefix { operator, operand } => {
+            let prefix = prefix_meaning(alloc, scope, line, operand.line, *operator, first)?;
             Ok(Denoted::Value(prefix))
         }
-        Expr::Cast {
-            line,
-            value,
-            target,
-        } => cast(alloc, table, scope, *line, value, first, target),
-        Expr::Binary {
-            line,
+        ExprKind::Cast { value, target } => cast(alloc, table, scope, line, value, first, target),
+        ExprKind::Binary {
             left,
             operator,
             right,
-        } => binary(alloc, table, scope, *line, left, first, *operator, right),
-        Expr::Cond {
-            line,
+        } => binary(alloc, table, scope, line, left, first, *operator, right),
+        ExprKind::Cond {
             test,
             then,
             otherwise,
-        } => choice(alloc, table, scope, *line, test, first, then, otherwise),
-        Expr::Chuck {
-            line,
+        } => choice(alloc, table, scope, line, test, first, then, otherwise),
+        ExprKind::Chuck {
             left,
             operator,
             right,
-        } => chuck(alloc, table, scope, *line, left, first, *operator, right),
-        Expr::Int { .. }
-        | Expr::Float { .. }
-        | Expr::Text { .. }
-        | Expr::Name { .. }
-        | Expr::Constant { .. }
-        | Expr::Unit { .. }
-        | Expr::Paren { .. }
-        | Expr::Array { .. }
-        | Expr::New { .. }
-        | Expr::Spork { .. }
-        | Expr::Declare { .. } => unreachable!(),
+        } => chuck(alloc, table, scope, line, left, first, *operator, right),
+        ExprKind::Int(_)
+        | ExprKind::Float(_)
+        | ExprKind::Text(_)
+        | ExprKind::Name(_)
+        | ExprKind::Constant(_)
+        | ExprKind::Unit(_)
+        | ExprKind::Paren(_)
+        | ExprKind::Array(_)
+        | ExprKind::New { .. }
+        | ExprKind::Spork(_)
+        | ExprKind::Declare { .. } => unreachable!(),
     }
 }
 
@@ -205,7 +190,7 @@ pub fn expr(alloc: Global, table: &Table, scope: &mut Scope, e: &Expr) -> Result
         + expr_size (view_expr e.now) }
 {
     let meaning = meaning(alloc, table, scope, e)?;
-    as_value(alloc, scope, e.line(), meaning)
+    as_value(alloc, scope, e.line, meaning)
 }
 
 /// The values of expressions, one after another, or the first fault among them.
@@ -349,7 +334,7 @@ fn item(
     ensures grown { length scope.new.locals ≤ length scope.old.locals
         + expr_size (view_expr index.now) }
 {
-    let array = as_value(alloc, scope, array.line(), first)?;
+    let array = as_value(alloc, scope, array.line, first)?;
     let index = expr(alloc, table, scope, index)?;
     item_meaning(alloc, scope, line, array, index)
 }
@@ -370,7 +355,7 @@ fn member(
         (tree.member line (view_expr object.now) name.now)) }
 {
     let word = wait_word(object, name);
-    member_or_wait(alloc, table, scope, line, object.line(), first, name, word)
+    member_or_wait(alloc, table, scope, line, object.line, first, name, word)
 }
 
 /// `count :: unit`, whose count stands for `first`.
@@ -393,7 +378,7 @@ fn dur(
         + expr_size (view_expr unit.now) }
 {
     let name = unit_in(unit);
-    let count = as_value(alloc, scope, count.line(), first)?;
+    let count = as_value(alloc, scope, count.line, first)?;
     let unit = expr(alloc, table, scope, unit)?;
     let dur = dur_meaning(alloc, scope, line, count, unit, name)?;
     Ok(Denoted::Value(dur))
@@ -464,40 +449,36 @@ fn spork(
     ensures grown { length scope.new.locals ≤ length scope.old.locals
         + expr_size (view_expr call.now) }
 {
-    match call {
-        Expr::Call {
-            line: call_line,
-            callee,
-            arguments,
-        } => sporked_call(
+    match &call.kind {
+        ExprKind::Call { callee, arguments } => sporked_call(
             alloc,
             table,
             scope,
             line,
-            *call_line,
+            call.line,
             arguments.items(),
             callee,
         ),
-        Expr::Int { .. }
-        | Expr::Float { .. }
-        | Expr::Text { .. }
-        | Expr::Name { .. }
-        | Expr::Constant { .. }
-        | Expr::Unit { .. }
-        | Expr::Paren { .. }
-        | Expr::Array { .. }
-        | Expr::Index { .. }
-        | Expr::Member { .. }
-        | Expr::Postfix { .. }
-        | Expr::Dur { .. }
-        | Expr::Prefix { .. }
-        | Expr::New { .. }
-        | Expr::Spork { .. }
-        | Expr::Cast { .. }
-        | Expr::Binary { .. }
-        | Expr::Cond { .. }
-        | Expr::Declare { .. }
-        | Expr::Chuck { .. } => {
+        ExprKind::Int(_)
+        | ExprKind::Float(_)
+        | ExprKind::Text(_)
+        | ExprKind::Name(_)
+        | ExprKind::Constant(_)
+        | ExprKind::Unit(_)
+        | ExprKind::Paren(_)
+        | ExprKind::Array(_)
+        | ExprKind::Index { .. }
+        | ExprKind::Member { .. }
+        | ExprKind::Postfix { .. }
+        | ExprKind::Dur { .. }
+        | ExprKind::Prefix { .. }
+        | ExprKind::New { .. }
+        | ExprKind::Spork(_)
+        | ExprKind::Cast { .. }
+        | ExprKind::Binary { .. }
+        | ExprKind::Cond { .. }
+        | ExprKind::Declare { .. }
+        | ExprKind::Chuck { .. } => {
             let not_callable = scope.wrong(line, FaultKind::NotCallable);
             expr(alloc, table, scope, call)?;
             Err(not_callable)
@@ -520,7 +501,7 @@ fn cast(
         (definition.meaning table.now before
         (tree.cast line (view_expr value.now) target.now)) }
 {
-    let value = as_value(alloc, scope, value.line(), first)?;
+    let value = as_value(alloc, scope, value.line, first)?;
     let named = table.named(scope.file(), &target.base);
     let cast = cast_meaning(
         alloc,
@@ -554,7 +535,7 @@ fn binary(
     ensures grown { length scope.new.locals ≤ length scope.old.locals
         + expr_size (view_expr right.now) }
 {
-    let left = as_value(alloc, scope, left.line(), first)?;
+    let left = as_value(alloc, scope, left.line, first)?;
     let right = expr(alloc, table, scope, right)?;
     let binary = binary_meaning(alloc, table.parents(), scope, line, operator, left, right)?;
     Ok(Denoted::Value(binary))
@@ -581,7 +562,7 @@ fn choice(
     ensures grown { length scope.new.locals ≤ length scope.old.locals
         + expr_size (view_expr then.now) + expr_size (view_expr otherwise.now) }
 {
-    let test = as_value(alloc, scope, test.line(), first)?;
+    let test = as_value(alloc, scope, test.line, first)?;
     let then = expr(alloc, table, scope, then)?;
     let otherwise = expr(alloc, table, scope, otherwise)?;
     let choice = choice_meaning(alloc, table.parents(), scope, line, test, then, otherwise)?;
@@ -639,7 +620,7 @@ fn chuck(
     ensures grown { length scope.new.locals ≤ length scope.old.locals
         + expr_size (view_expr right.now) }
 {
-    let value = as_value(alloc, scope, left.line(), first)?;
+    let value = as_value(alloc, scope, left.line, first)?;
     let target = meaning(alloc, table, scope, right)?;
     let chuck = chucked(alloc, table, scope, line, operator, value, right, target)?;
     Ok(Denoted::Value(chuck))

@@ -11,7 +11,7 @@ use check_calls::chuck_meaning;
 use check_names::member_meaning;
 use check_scope::{Callee, Denoted, Scope, Typed};
 use ck_base::Text;
-use ck_syntax::{ChuckOp, Constant, Expr};
+use ck_syntax::{ChuckOp, Constant, Expr, ExprKind};
 use ck_typed::{TypedExpr, Unary};
 use ck_values::{Elem, Kind};
 use std::alloc::Global;
@@ -92,16 +92,11 @@ fn now_meaning(
 fn is_now(expr: &Expr) -> bool
     ensures { result ≡ definition.is_now (view_expr expr.now) }
 {
-    matches!(
-        expr,
-        Expr::Constant {
-            line: _,
-            constant: Constant::Now,
-        }
-    )
+    matches!(&expr.kind, ExprKind::Constant(Constant::Now))
 }
 
 /// What is chucked to `now`, or to anything else.
+#[tactic(auto, using(ck_syntax::proofs::Views::line_is))]
 pub(crate) fn chucked(
     alloc: Global,
     table: &Table,
@@ -122,14 +117,7 @@ pub(crate) fn chucked(
         now_meaning(alloc, table.parents(), scope, line, operator, value)
     } else {
         chuck_meaning(
-            alloc,
-            table,
-            scope,
-            line,
-            right.line(),
-            operator,
-            value,
-            target,
+            alloc, table, scope, line, right.line, operator, value, target,
         )
     }
 }
@@ -138,11 +126,7 @@ pub(crate) fn chucked(
 pub(crate) fn wait_word(object: &Expr, name: &Text) -> Option<Callee>
     ensures { option_map view_callee result ≡ definition.wait_word (view_expr object.now) name.now }
 {
-    let Expr::Constant {
-        line: _,
-        constant: Constant::Me,
-    } = object
-    else {
+    let ExprKind::Constant(Constant::Me) = &object.kind else {
         return None;
     };
     let name = name.bytes();

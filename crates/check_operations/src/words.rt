@@ -13,7 +13,7 @@ ghost use Rattle.type_table.specs.declared.fault.TypeFault.TheVariants.{Memory a
 
 use check_scope::{Scope, Typed, boxed};
 use ck_base::List;
-use ck_syntax::{Constant, Expr, TimeUnit};
+use ck_syntax::{Constant, Expr, ExprKind, TimeUnit};
 use ck_typed::{Leaf, Spot, TypedExpr, Variadic};
 use ck_values::{Elem, Kind};
 use std::alloc::Global;
@@ -137,9 +137,9 @@ pub(crate) fn whole_samples(unit: TimeUnit) -> i64
 pub fn unit_in(e: &Expr) -> Option<TimeUnit>
     ensures { result ≡ definition.unit_in (view_expr e.now) }
 {
-    match e {
-        Expr::Unit { line: _, unit } => Some(*unit),
-        Expr::Paren { line: _, inner } => unit_in(inner),
+    match &e.kind {
+        ExprKind::Unit(unit) => Some(*unit),
+        ExprKind::Paren(inner) => unit_in(inner),
         _ => None,
     }
 }
