@@ -4,11 +4,11 @@ use Rattle.std.proofs.lemmas.List.{map-append}
 use Rattle.ck_syntax.specs.declared.declaration.DeclHead.{DeclHead}
 use Rattle.ck_syntax.specs.declared.expr.Declarator.{Declarator}
 use Rattle.ck_syntax.specs.declared.stmt.Stmt.{Stmt}
-use Rattle.ck_syntax.specs.declared.stmt.Stmt.TheVariants as raw
+use Rattle.ck_syntax.specs.declared.stmt.StmtKind.TheVariants as raw
 use Rattle.ck_syntax.specs.Size.{stmt_size, stmts_size}
 use Rattle.ck_syntax.specs.Tree as tree
 use Rattle.ck_syntax.specs.Tree.{Declrs, no_declrs, and_declr, Stmts, no_stmts, and_stmt}
-use Rattle.ck_syntax.specs.View.{view_stmt, stmts_of, view_declr, declrs_of}
+use Rattle.ck_syntax.specs.View.{view_stmt, view_stmt_kind, stmts_of, view_declr, declrs_of}
 use Rattle.ck_syntax.proofs.Views.{view-Block}
 use Rattle.type_table.specs.Answer.{Answer, gives, and_then}
 use Rattle.type_table.specs.Table.{Table}
@@ -25,15 +25,16 @@ use Rattle.program_laws.specs.Statements.{statements}
 use Rattle.check_decls.specs.StatementTyping.{block}
 use Rattle.check_decls.specs.View.{stated_as, all_stated}
 
-pub block_is : (t : Table) (o : Surroundings) (s : Scope) (x : Stmt) (l : ℕ) (all : List Stmt)
-    → x ≡ raw.Block l all → statement t o s (view_stmt x) ≡ block t o s all
-block_is t o s x l all is =
-    ap (λ y. statement t o s (view_stmt y)) is ∙ ap (statement t o s) (view-Block l all)
+pub block_is : (t : Table) (o : Surroundings) (s : Scope) (x : Stmt) (all : List Stmt)
+    → x.kind ≡ raw.Block all → statement t o s (view_stmt x) ≡ block t o s all
+block_is t o s x all is =
+    ap (λ k. statement t o s (view_stmt_kind x.line k)) is
+    ∙ ap (statement t o s) (view-Block x.line all)
 
-pub block_size : (x : Stmt) (l : ℕ) (all : List Stmt) → x ≡ raw.Block l all
+pub block_size : (x : Stmt) (all : List Stmt) → x.kind ≡ raw.Block all
     → stmt_size (view_stmt x) ≡ stmts_size (stmts_of no_stmts all) + 2
-block_size x l all is =
-    ap (λ y. stmt_size (view_stmt y)) is ∙ ap stmt_size (view-Block l all)
+block_size x all is =
+    ap (λ k. stmt_size (view_stmt_kind x.line k)) is ∙ ap stmt_size (view-Block x.line all)
 
 -- one declaration more
 abbrev pub one_declaration : Table → ℕ → DeclHead → AllStated → Declarator → Answer AllStated

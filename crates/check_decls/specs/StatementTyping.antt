@@ -29,7 +29,7 @@ condition t s l e = of.condition t s l (view_expr e)
 abbrev pub for_test : Table → Scope → (line : ℕ) → Stmt → Answer Tested
 for_test t s l x = of.for_test t s l (view_stmt x)
 
-abbrev pub for_step : Table → Scope → Option Expr → Answer Stated
+abbrev pub for_step : Table → Scope → Option (Box Expr) → Answer Stated
 for_step t s e = of.for_step t s (view_option e)
 
 abbrev pub for_made : Option (Box TypedExpr) → (start step body : TypedStmt) → Place → typed.Stmt
@@ -50,7 +50,7 @@ declared t s l h ds =
 abbrev pub print : Table → Scope → (line : ℕ) → List Expr → Answer Stated
 print t s l es = and_then (values t s (exprs_of no_exprs es)) (λ xs. of.printed l xs)
 
-abbrev pub return : Table → Surroundings → Scope → (line : ℕ) → Option Expr → Answer Stated
+abbrev pub return : Table → Surroundings → Scope → (line : ℕ) → Option (Box Expr) → Answer Stated
 return t o s l e = of.return_meaning t o s l (view_option e)
 
 -- statements ------------------------------------------------------------------------------------
@@ -100,7 +100,7 @@ do_while t o s l until a c =
     and_then (condition t y.scope l c) (λ x.
     gives (stated (typed.LoopLast until y.stmt x.typed.expr (place x.scope l)) x.scope)))
 
-abbrev pub for_do : Table → Surroundings → Scope → (line : ℕ) → (start test : Stmt) → (step : Option Expr)
+abbrev pub for_do : Table → Surroundings → Scope → (line : ℕ) → (start test : Stmt) → (step : Option (Box Expr))
     → (body : Stmt) → Answer Stated
 for_do t o s l a c e b =
     and_then (statement t o (with_block s) a) (λ x.

@@ -14,7 +14,7 @@ ghost use Rattle.type_table.specs.declared.fault.TypeFault.TheVariants.{Memory a
 use crate::simple::{declarations, dropped, nothing};
 use check_exprs::{Scope, Typed, expr, is_int};
 use check_scope::boxed;
-use ck_syntax::{Expr, Stmt};
+use ck_syntax::{Expr, Stmt, StmtKind};
 use ck_typed::{TypedExpr, TypedStmt};
 use ck_values::Place;
 use std::alloc::Global;
@@ -65,42 +65,39 @@ pub(crate) fn for_test(
     ensures grown { length scope.new.locals ≤ length scope.old.locals
         + stmt_size (view_stmt test.now) }
 {
-    match test {
-        Stmt::Empty { .. } => Ok(None),
-        Stmt::Expr { expr, .. } => {
+    match &test.kind {
+        StmtKind::Empty => Ok(None),
+        StmtKind::Expr(expr) => {
             let test = condition(alloc, table, scope, line, expr)?;
             Ok(Some(test.expr))
         }
-        Stmt::Declare {
-            line: list_line,
-            head,
-            declarators,
-        } => {
-            declarations(alloc, table, scope, *list_line, head, declarators.items())?;
+        StmtKind::Declare { head, declarators } => {
+            declarations(alloc, table, scope, test.line, head, declarators.items())?;
             Err(scope.wrong(line, FaultKind::Mismatch))
         }
-        Stmt::Block { .. }
-        | Stmt::Print { .. }
-        | Stmt::If { .. }
-        | Stmt::IfElse { .. }
-        | Stmt::While { .. }
-        | Stmt::Until { .. }
-        | Stmt::DoWhile { .. }
-        | Stmt::DoUntil { .. }
-        | Stmt::For { .. }
-        | Stmt::Repeat { .. }
-        | Stmt::Break { .. }
-        | Stmt::Continue { .. }
-        | Stmt::Return { .. } => Err(scope.wrong(line, FaultKind::Mismatch)),
+        StmtKind::Block(_)
+        | StmtKind::Print(_)
+        | StmtKind::If { .. }
+        | StmtKind::IfElse { .. }
+        | StmtKind::While { .. }
+        | StmtKind::Until { .. }
+        | StmtKind::DoWhile { .. }
+        | StmtKind::DoUntil { .. }
+        | StmtKind::For { .. }
+        | StmtKind::Repeat { .. }
+        | StmtKind::Break
+        | StmtKind::Continue
+        | StmtKind::Return(_) => Err(scope.wrong(line, FaultKind::Mismatch)),
     }
 }
 
 /// The step of a `for`, which may be missing.
+#[tactic(auto, using(ck_syntax::proofs::Views::line_is))]
 pub(crate) fn for_step(
     alloc: Global,
     table: &Table,
     scope: &mut Scope,
-    step: &Option<Expr>,
+    step: &Option<Box<Expr>>,
 ) -> Result<Box<TypedStmt>, TypeFault>
     requires room { length scope.old.locals + option_size (view_option step.now) < 2 ^ 32 }
     ensures stated { IsStated result scope.new (typing.for_step table.now scope.old step.now) }
@@ -109,7 +106,7 @@ pub(crate) fn for_step(
         + option_size (view_option step.now) }
 {
     match step {
-        Some(e) => dropped(alloc, table, scope, e.line(), e),
+        Some(e) => dropped(alloc, table, scope, e.line, e),
         None => nothing(alloc),
     }
 }

@@ -93,7 +93,7 @@ pub(crate) fn return_meaning(
     around: Surroundings,
     scope: &mut Scope,
     line: u32,
-    value: &Option<Expr>,
+    value: &Option<Box<Expr>>,
 ) -> Result<Box<TypedStmt>, TypeFault>
     requires room { length scope.old.locals + option_size (view_option value.now) < 2 ^ 32 }
     ensures stated { IsStated result scope.new

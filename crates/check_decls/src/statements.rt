@@ -15,7 +15,7 @@ use crate::simple::{block_of, declared, dropped, nothing, push_statement};
 use check_exprs::Scope;
 use check_scope::boxed;
 use ck_base::List;
-use ck_syntax::{Expr, Stmt};
+use ck_syntax::{Expr, Stmt, StmtKind};
 use ck_typed::TypedStmt;
 use program_laws::Surroundings;
 use std::alloc::Global;
@@ -37,56 +37,49 @@ pub(crate) fn statement(
     ensures grown { length scope.new.locals ≤ length scope.old.locals
         + stmt_size (view_stmt s.now) }
 {
-    match s {
-        Stmt::Block { stmts, .. } => block(alloc, table, around, scope, stmts.items()),
-        Stmt::Empty { .. } => nothing(alloc),
-        Stmt::Expr { line, expr } => dropped(alloc, table, scope, *line, expr),
-        Stmt::Declare {
-            line,
-            head,
-            declarators,
-        } => declared(alloc, table, scope, *line, head, declarators.items()),
-        Stmt::Print { line, items } => print(alloc, table, scope, *line, items.items()),
-        Stmt::If { line, test, then } => if_then(alloc, table, around, scope, *line, then, test),
-        Stmt::IfElse {
-            line,
+    let line = s.line;
+    match &s.kind {
+        StmtKind::Block(stmts) => block(alloc, table, around, scope, stmts.items()),
+        StmtKind::Empty => nothing(alloc),
+        StmtKind::Expr(expr) => dropped(alloc, table, scope, line, expr),
+        StmtKind::Declare { head, declarators } => {
+            declared(alloc, table, scope, line, head, declarators.items())
+        }
+        StmtKind::Print(items) => print(alloc, table, scope, line, items.items()),
+        StmtKind::If { test, then } => if_then(alloc, table, around, scope, line, then, test),
+        StmtKind::IfElse {
             test,
             then,
             otherwise,
-        } => if_else(alloc, table, around, scope, *line, then, otherwise, test),
-        Stmt::While { line, test, body } => {
-            while_do(alloc, table, around, scope, *line, false, body, test)
+        } => if_else(alloc, table, around, scope, line, then, otherwise, test),
+        StmtKind::While { test, body } => {
+            while_do(alloc, table, around, scope, line, false, body, test)
         }
-        Stmt::Until { line, test, body } => {
-            while_do(alloc, table, around, scope, *line, true, body, test)
+        StmtKind::Until { test, body } => {
+            while_do(alloc, table, around, scope, line, true, body, test)
         }
-        Stmt::DoWhile { line, body, test } => {
-            do_while(alloc, table, around, scope, *line, false, body, test)
+        StmtKind::DoWhile { body, test } => {
+            do_while(alloc, table, around, scope, line, false, body, test)
         }
-        Stmt::DoUntil { line, body, test } => {
-            do_while(alloc, table, around, scope, *line, true, body, test)
+        StmtKind::DoUntil { body, test } => {
+            do_while(alloc, table, around, scope, line, true, body, test)
         }
-        Stmt::For {
-            line,
+        StmtKind::For {
             start,
             test,
             step,
             body,
-        } => for_do(alloc, table, around, scope, *line, start, test, body, step),
-        Stmt::Repeat { line, count, body } => {
-            repeat(alloc, table, around, scope, *line, body, count)
+        } => for_do(alloc, table, around, scope, line, start, test, body, step),
+        StmtKind::Repeat { count, body } => repeat(alloc, table, around, scope, line, body, count),
+        StmtKind::Break => {
+            let place = scope.place(line);
+            jump(alloc, around, scope, line, TypedStmt::Break { place })
         }
-        Stmt::Break { line } => {
-            let place = scope.place(*line);
-            jump(alloc, around, scope, *line, TypedStmt::Break { place })
+        StmtKind::Continue => {
+            let place = scope.place(line);
+            jump(alloc, around, scope, line, TypedStmt::Continue { place })
         }
-        Stmt::Continue { line } => {
-            let place = scope.place(*line);
-            jump(alloc, around, scope, *line, TypedStmt::Continue { place })
-        }
-        Stmt::Return { line, value } => {
-            return_meaning(alloc, table, around, scope, *line, value)
-        }
+        StmtKind::Return(value) => return_meaning(alloc, table, around, scope, line, value),
     }
 }
 
@@ -276,7 +269,7 @@ fn for_do(
     start: &Stmt,
     test: &Stmt,
     body: &Stmt,
-    step: &Option<Expr>,
+    step: &Option<Box<Expr>>,
 ) -> Result<Box<TypedStmt>, TypeFault>
     requires room { length scope.old.locals + stmt_size (view_stmt start.now)
         + stmt_size (view_stmt test.now) + option_size (view_option step.now)

@@ -1,5 +1,5 @@
 use Rattle.std.proofs.Common.{rules, ◌≡◌, ◌∙◌, arith}
-use Rattle.ck_syntax.specs.declared.stmt.Stmt.TheViews.{the_lemmas}
+use Rattle.ck_syntax.specs.declared.stmt.StmtKind.TheViews.{the_lemmas}
 use Rattle.ck_syntax.specs.Tree.{no_stmts}
 use Rattle.ck_syntax.specs.View.{stmts_of}
 use Rattle.type_table.specs.Answer.{Fault, gives, refused}
@@ -14,13 +14,13 @@ use Rattle.check_decls.proofs.statements.+statements.Goals as goal
 pub statement-returns-in-Block-clause-stated : goal.statement-returns-in-Block-clause-stated
 statement-returns-in-Block-clause-stated t c =
     let is =
-    block_is c.args.table.now c.args.around c.args.scope.now c.args.s.now _ _ c.in-Block.is in
+    block_is c.args.table.now c.args.around c.args.scope.now c.args.s.now _ c.in-Block.is in
     search (rules, is)
 
 pub statement-returns-in-Block-clause-refused : goal.statement-returns-in-Block-clause-refused
 statement-returns-in-Block-clause-refused t c =
     let is =
-    block_is c.args.table.now c.args.around c.args.scope.now c.args.s.now _ _ c.in-Block.is in
+    block_is c.args.table.now c.args.around c.args.scope.now c.args.s.now _ c.in-Block.is in
     search (rules, is)
 
 pub statements-returns-in_err-statement-clause-refused :
@@ -106,10 +106,10 @@ statements-loop-s-preserved t c =
 
 pub statement-block-requires : goal.statement-block-requires
 statement-block-requires t c =
-    let is = block_size c.args.s.now _ _ c.in-Block.is in
+    let is = block_size c.args.s.now _ c.in-Block.is in
     (search (rules, the_lemmas), grind (arith, is))
 
 pub statement-returns-in-Block-clause-grown : goal.statement-returns-in-Block-clause-grown
 statement-returns-in-Block-clause-grown t c =
-    let is = block_size c.args.s.now _ _ c.in-Block.is in
+    let is = block_size c.args.s.now _ c.in-Block.is in
     grind (arith, is)
