@@ -20,7 +20,7 @@ use ck_syntax::File;
 use ck_typed::{Program, ProgramParts, TypedFun};
 use first_walk::enter_file;
 use std::alloc::Global;
-use type_table::{Entered, Table, TypeFault};
+use type_table::{Entered, Table, TypeFault, number};
 
 /// What the files so far declare, their functions, and of each the function of its statements.
 #[derive(Drop)]
@@ -56,8 +56,9 @@ impl Checked {
         ensures grown { OnOk result
             (entries self.new.table.value ≤ entries self.old.table.value + 2 * MAX_FILE_TOKENS) }
     {
+        let first = number(self.table.classes.len());
         enter_file(alloc, &mut self.table, file, raw)?;
-        let walked = items_typed(alloc, &self.table, file, raw.items.items())?;
+        let walked = items_typed(alloc, &self.table, file, first, raw.items.items())?;
         let mut funs = walked.file_funs()?;
         self.funs.append(&mut funs)?;
         self.mains.push(self.table.main_of(file))?;

@@ -3,7 +3,7 @@ ghost use Rattle.std.specs.Prelude.{◌≡◌, ◌+◌, ◌^◌, ◌<◌, ◌≤
 ghost use Rattle.ck_values.specs.declared.kind.Kind.TheVariants.{Void as void};
 ghost use Rattle.ck_syntax.specs.Size.{stmt_size, member_size, members_size};
 ghost use Rattle.ck_syntax.specs.Size.{class_size, item_size, items_size};
-ghost use Rattle.ck_syntax.specs.Tree.{no_members, no_items};
+ghost use Rattle.ck_syntax.specs.Tree.{no_members, no_items, class_item};
 ghost use Rattle.ck_syntax.specs.View.{view_stmt, view_member, members_of};
 ghost use Rattle.ck_syntax.specs.View.{view_class, view_item, items_of};
 ghost use Rattle.ck_typed.specs.View.{view_fun};
@@ -13,6 +13,7 @@ ghost use Rattle.program_laws.specs.Programs as definition;
 ghost use Rattle.check_decls.specs.ProgramView.{view_walked};
 ghost use Rattle.type_table.specs.Answer.{gives};
 ghost use Rattle.type_table.specs.Table.{file_of};
+ghost use Rattle.first_walk.specs.Room.{HasNumber, AreNumbered};
 ghost use Rattle.fixed_point.specs.Wanting.{out_of_memory};
 ghost use Rattle.type_table.specs.declared.fault.TypeFault.TheVariants.{Memory as memory};
 
@@ -24,7 +25,7 @@ use ck_base::List;
 use ck_syntax::{ClassDef, Item, Member, Stmt};
 use ck_typed::{TypedFun, TypedStmt};
 use ck_values::Kind;
-use first_walk::{have_statement, own_class_or_object};
+use first_walk::{have_statement, next_class};
 use program_laws::Surroundings;
 use std::alloc::Global;
 use type_table::{Table, TypeFault};
@@ -146,14 +147,16 @@ impl Walked {
         }
     }
 
-    /// An item of a file.
+    /// An item of a file. This is its number where it is a class.
     fn add_item(
         &mut self,
         alloc: Global,
         table: &Table,
         file: u32,
+        class: u32,
         item: &Item,
     ) -> Result<(), TypeFault>
+        requires numbered { HasNumber table.now file class (view_item item.now) }
         requires room { length self.old.scope.value.locals
             + item_size (view_item item.now) < 2 ^ 32 }
         requires numbers { (file_of table.now file).main + 1 + length self.old.funs.items
@@ -167,9 +170,9 @@ impl Walked {
             ≤ length self.old.funs.items + item_size (view_item item.now)) }
     {
         match item {
-            Item::Class(class) => {
+            Item::Class(def) => {
                 let first = self.next_fun(table, file);
-                self.add_funs(class_typed(alloc, table, file, first, class)?)
+                self.add_funs(class_typed(alloc, table, file, class, first, def)?)
             }
             Item::Fun(fun) => {
                 let number = self.next_fun(table, file);
@@ -257,37 +260,41 @@ fn first_method(has_body: bool, first: u32) -> u32
     if has_body { first + 1 } else { first }
 }
 
-/// The functions of a class, numbered from the first on.
+/// The functions of a class of this number, numbered from the first on.
 fn class_typed(
     alloc: Global,
     table: &Table,
     file: u32,
+    class: u32,
     first: u32,
-    class: &ClassDef,
+    def: &ClassDef,
 ) -> Result<Vec<TypedFun>, TypeFault>
-    requires room { class_size (view_class class.now) < 2 ^ 32 }
-    requires numbers { first + class_size (view_class class.now) < 2 ^ 32 }
+    requires numbered { HasNumber table.now file class (class_item (view_class def.now)) }
+    requires room { class_size (view_class def.now) < 2 ^ 32 }
+    requires numbers { first + class_size (view_class def.now) < 2 ^ 32 }
     ensures typed { IfOk result
-        (λ funs. typing.class_typed table.now file first class.now
+        (λ funs. typing.class_typed table.now file first def.now
         ≡ gives (map view_fun funs.items)) }
-    ensures refused { IsRefused result (typing.class_typed table.now file first class.now) }
-    ensures more { IfOk result (λ funs. length funs.items ≤ class_size (view_class class.now)) }
+    ensures refused { IsRefused result (typing.class_typed table.now file first def.now) }
+    ensures more { IfOk result (λ funs. length funs.items ≤ class_size (view_class def.now)) }
 {
-    let members = class.members.items();
-    let own = own_class_or_object(table, file, &class.name);
+    let members = def.members.items();
     let has_body = have_statement(members);
     let first = first_method(has_body, first);
-    let walked = members_typed(alloc, table, file, own, first, members)?;
-    walked.class_funs(has_body, class.line)
+    let walked = members_typed(alloc, table, file, class, first, members)?;
+    walked.class_funs(has_body, def.line)
 }
 
-/// The items of a file.
+/// The items of a file, whose classes are numbered from the first on.
 pub(crate) fn items_typed(
     alloc: Global,
     table: &Table,
     file: u32,
+    first: u32,
     items: &[Item],
 ) -> Result<Walked, TypeFault>
+    requires numbered { AreNumbered table.now file first items.now }
+    requires few { first + items_size (items_of no_items items.now) < 2 ^ 32 }
     requires room { items_size (items_of no_items items.now) < 2 ^ 32 }
     requires numbers { (file_of table.now file).main + 1
         + items_size (items_of no_items items.now) < 2 ^ 32 }
@@ -296,8 +303,10 @@ pub(crate) fn items_typed(
     ensures refused { IsRefused result (typing.items table.now file items.now) }
 {
     let mut walked = Walked::begun(alloc, Scope::new(alloc, file, None, None))?;
+    let mut class = first;
     for item in items {
-        walked.add_item(alloc, table, file, item)?;
+        walked.add_item(alloc, table, file, class, item)?;
+        class = next_class(class, item);
     }
     Ok(walked)
 }

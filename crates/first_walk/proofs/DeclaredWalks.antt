@@ -292,3 +292,10 @@ module _ (f : ℕ) where
       gives_at (Keeps f t) (enter_item f t x) u gave
       (gives_map (Walked f (λ w. ItemDeclared w f x) t) (Keeps f t) (λ v so. so.keeps) (enter_item f t x)
       (item_walked t x is))
+
+  -- and so do all items
+  pub items_keep : (t u : Table) (xs : tree.File) → FileReady f t → enter_items f t xs ≡ gives u → Keeps f t u
+  items_keep t u xs is gave =
+      gives_at (Keeps f t) (enter_items f t xs) u gave
+      (gives_map (Walked f (λ w. FileDeclared w f xs) t) (Keeps f t) (λ v so. so.keeps) (enter_items f t xs)
+      (items_walked t xs is))

@@ -27,12 +27,12 @@ use Rattle.first_walk.proofs.TextFuns.{ClassHolds, ClassesHold}
 -- the files stay ------------------------------------------------------------------------------------
 
 module _ (f : ℕ) where
-  parent_files : (t : Table) (x : Item) → (with_parent f t x).files ≡ t.files
+  pub parent_files : (t : Table) (x : Item) → (with_parent f t x).files ≡ t.files
   parent_files t (class_item (tree.class l p n parent ms)) = refl
   parent_files t (fun_item g) = refl
   parent_files t (stmt_item s) = refl
 
-  parents_files : (t : Table) (xs : tree.File) → (with_parents f t xs).files ≡ t.files
+  pub parents_files : (t : Table) (xs : tree.File) → (with_parents f t xs).files ≡ t.files
   parents_files t no_items = refl
   parents_files t (and_item xs x) = parent_files (with_parents f t xs) x ∙ parents_files t xs
 
@@ -44,12 +44,12 @@ module _ (f : ℕ) where
   heads_of_files c t no_members = refl
   heads_of_files c t (and_member ms m) = head_files c (with_heads_of f c t ms) m ∙ heads_of_files c t ms
 
-  item_heads_files : (t : Table) (x : Item) → (with_item_heads f t x).files ≡ t.files
+  pub item_heads_files : (t : Table) (x : Item) → (with_item_heads f t x).files ≡ t.files
   item_heads_files t (class_item (tree.class l p n parent ms)) = heads_of_files (own_class t f n) t ms
   item_heads_files t (fun_item g) = refl
   item_heads_files t (stmt_item s) = refl
 
-  heads_files : (t : Table) (xs : tree.File) → (with_heads f t xs).files ≡ t.files
+  pub heads_files : (t : Table) (xs : tree.File) → (with_heads f t xs).files ≡ t.files
   heads_files t no_items = refl
   heads_files t (and_item xs x) = item_heads_files (with_heads f t xs) x ∙ heads_files t xs
 

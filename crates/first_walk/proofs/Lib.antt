@@ -36,6 +36,7 @@ pub mod Headed
 pub mod RoomFacts
 pub mod Measures
 pub mod Fresh
+pub mod Numbered
 pub mod Started
 pub mod EnterBase
 pub mod EnteredFacts

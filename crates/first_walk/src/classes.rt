@@ -1,6 +1,6 @@
 //! The classes of a file, entered in text order.
 ghost use Rattle.std.specs.Prelude.{◌≡◌, ◌+◌, ◌<◌, ◌^◌, length, OnOk, IfErr};
-ghost use Rattle.ck_syntax.specs.Size.{items_size};
+ghost use Rattle.ck_syntax.specs.Size.{item_size, items_size};
 ghost use Rattle.ck_syntax.specs.Tree.{no_items};
 ghost use Rattle.ck_syntax.specs.View.{view_class, view_item, items_of};
 ghost use Rattle.type_table.specs.Answer.{gives, fault, IsFault};
@@ -9,7 +9,7 @@ ghost use Rattle.type_table.specs.declared.fault.TypeFault.TheVariants.{Memory a
 ghost use Rattle.type_table.specs.Names.{and_first};
 ghost use Rattle.type_table.specs.Table.{file_of};
 ghost use Rattle.first_walk.specs.FirstWalk.{begun, with_file, with_public, with_new_class, with_class_named, with_item_named, with_classes};
-ghost use Rattle.first_walk.specs.Room.{entries};
+ghost use Rattle.first_walk.specs.Room.{entries, next_class};
 
 use ck_base::Text;
 use ck_syntax::{ClassDef, Item};
@@ -31,6 +31,17 @@ pub(crate) fn begin(alloc: Global, table: &mut Table) -> Result<(), TypeFault>
         variables: ByName::new(alloc),
     })?;
     Ok(())
+}
+
+/// The number of the next class, after that of an item.
+pub fn next_class(class: u32, item: &Item) -> u32
+    requires few { class + item_size (view_item item.now) < 2 ^ 32 }
+    ensures { result ≡ next_class class (view_item item.now) }
+{
+    match item {
+        Item::Class(_) => class + 1,
+        _ => class,
+    }
 }
 
 /// A public class is known by its name to later files.

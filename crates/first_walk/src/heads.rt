@@ -1,16 +1,18 @@
 //! The types of functions, as the text has them.
-ghost use Rattle.std.specs.Prelude.{◌≡◌, OnOk, IfOk, IfErr};
-ghost use Rattle.ck_syntax.specs.Tree.{no_params, no_members, no_items, class_item};
-ghost use Rattle.ck_syntax.specs.View.{params_of, view_fun, view_class, view_member, members_of, view_item, items_of};
+ghost use Rattle.std.specs.Prelude.{◌≡◌, ◌+◌, ◌<◌, ◌^◌, OnOk, IfOk, IfErr};
+ghost use Rattle.ck_syntax.specs.Size.{items_size};
+ghost use Rattle.ck_syntax.specs.Tree.{no_params, no_members, no_items};
+ghost use Rattle.ck_syntax.specs.View.{params_of, view_fun, view_member, members_of, view_item, items_of};
 ghost use Rattle.type_table.specs.Table.{class_of};
 ghost use Rattle.type_table.specs.Names.{and_first};
 ghost use Rattle.fixed_point.specs.Wanting.{out_of_memory};
 ghost use Rattle.type_table.specs.declared.fault.TypeFault.TheVariants.{Memory as memory};
 ghost use Rattle.first_walk.specs.FirstWalk.{param_kind as kind_of_param, param_kinds as kinds_of_params, names_unknown, has_unknown, head_of as types_of, with_class, with_head, with_heads_of, with_item_heads, with_heads};
+ghost use Rattle.first_walk.specs.Room.{HasNumber, AreNumbered};
 
-use crate::parents::own_class_or_object;
+use crate::classes::next_class;
 use ck_base::List;
-use ck_syntax::{ClassDef, FunDef, Item, Member, Param};
+use ck_syntax::{FunDef, Item, Member, Param};
 use ck_values::Kind;
 use std::alloc::Global;
 use type_table::{Head, Table, TypeFault, result_kind, value_kind};
@@ -149,51 +151,43 @@ fn enter_heads_of(
     Ok(())
 }
 
-/// The types of the functions of a class of the text.
-fn enter_class_heads(
-    alloc: Global,
-    table: &mut Table,
-    file: u32,
-    class: &ClassDef,
-) -> Result<(), TypeFault>
-    ensures added { OnOk result
-        (table.new ≡ with_item_heads file table.old (class_item (view_class class.now))) }
-    ensures memory { IfErr result (λ why. why ≡ memory out_of_memory) }
-{
-    let own = own_class_or_object(table, file, &class.name);
-    enter_heads_of(alloc, table, file, own, class.members.items())
-}
-
-/// The types of the functions of an item that is a class.
+/// The types of the functions of an item that is a class, of this number.
 fn enter_item_heads(
     alloc: Global,
     table: &mut Table,
     file: u32,
+    class: u32,
     item: &Item,
 ) -> Result<(), TypeFault>
+    requires numbered { HasNumber table.old file class (view_item item.now) }
     ensures added { OnOk result
         (table.new ≡ with_item_heads file table.old (view_item item.now)) }
     ensures memory { IfErr result (λ why. why ≡ memory out_of_memory) }
 {
     match item {
-        Item::Class(class) => enter_class_heads(alloc, table, file, class),
+        Item::Class(def) => enter_heads_of(alloc, table, file, class, def.members.items()),
         _ => Ok(()),
     }
 }
 
-/// The types of the functions of all classes of a file.
+/// The types of the functions of all classes of a file, which are numbered from the first on.
 pub(crate) fn enter_heads(
     alloc: Global,
     table: &mut Table,
     file: u32,
+    first: u32,
     items: &[Item],
 ) -> Result<(), TypeFault>
+    requires numbered { AreNumbered table.old file first items.now }
+    requires few { first + items_size (items_of no_items items.now) < 2 ^ 32 }
     ensures added { OnOk result
         (table.new ≡ with_heads file table.old (items_of no_items items.now)) }
     ensures memory { IfErr result (λ why. why ≡ memory out_of_memory) }
 {
+    let mut class = first;
     for item in items {
-        enter_item_heads(alloc, table, file, item)?;
+        enter_item_heads(alloc, table, file, class, item)?;
+        class = next_class(class, item);
     }
     Ok(())
 }

@@ -15,6 +15,6 @@ mod parents;
 mod statements;
 mod walk;
 
+pub use classes::next_class;
 pub use heads::param_kind;
-pub use parents::own_class_or_object;
 pub use walk::{enter_file, have_statement};

@@ -1,24 +1,20 @@
 //! The parents of a file's classes.
-ghost use Rattle.std.specs.Prelude.{◌≡◌, ◌<◌, ◌^◌, length, slice_set, OnOk, IfErr};
+ghost use Rattle.std.specs.Prelude.{◌≡◌, ◌+◌, ◌<◌, ◌^◌, length, slice_set, OnOk, IfErr};
+ghost use Rattle.ck_syntax.specs.Size.{items_size};
 ghost use Rattle.ck_syntax.specs.Tree.{class_item, no_items};
 ghost use Rattle.ck_syntax.specs.View.{view_class, view_item, items_of};
 ghost use Rattle.type_table.specs.Answer.{gives, fault, IsFault};
 ghost use Rattle.type_table.specs.Table.{class_named};
-ghost use Rattle.first_walk.specs.FirstWalk.{own_class, extended, with_parent, with_parents, check_line as line_checked, check_extended as extended_checked, check_parent as parent_checked, check_parents as parents_checked};
+ghost use Rattle.first_walk.specs.FirstWalk.{extended, with_parent, with_parents, check_line as line_checked, check_extended as extended_checked, check_parent as parent_checked, check_parents as parents_checked};
+ghost use Rattle.first_walk.specs.Room.{HasNumber, AreNumbered};
 
+use crate::classes::next_class;
 use ck_base::Text;
 use ck_syntax::{ClassDef, Item};
 use fixed_point::Memory;
 use std::alloc::Global;
 use type_rules::is_below;
 use type_table::{FaultKind, Table, TypeFault, built_in, wrong};
-
-/// The number of a class of this file; that of `Object` where it has none of this name.
-pub fn own_class_or_object(table: &Table, file: u32, name: &Text) -> u32
-    ensures { result ≡ own_class table.now file name.now }
-{
-    table.own_class(file, name.bytes()).unwrap_or(0)
-}
 
 /// The class that is extended; `Object` where there is none.
 fn extended(table: &Table, file: u32, parent: &Option<Text>) -> u32
@@ -37,23 +33,27 @@ fn set_parent(table: &mut Table, class: u32, parent: u32)
     table.parents.set(class, parent);
 }
 
-/// The parent of an item that is a class.
-fn enter_parent(table: &mut Table, file: u32, item: &Item)
+/// The parent of an item that is a class, of this number.
+fn enter_parent(table: &mut Table, file: u32, class: u32, item: &Item)
+    requires numbered { HasNumber table.old file class (view_item item.now) }
     ensures { table.new ≡ with_parent file table.old (view_item item.now) }
 {
-    if let Item::Class(class) = item {
-        let parent = extended(table, file, &class.parent);
-        let own = own_class_or_object(table, file, &class.name);
-        set_parent(table, own, parent);
+    if let Item::Class(def) = item {
+        let parent = extended(table, file, &def.parent);
+        set_parent(table, class, parent);
     }
 }
 
-/// All parents of a file's classes.
-pub(crate) fn enter_parents(table: &mut Table, file: u32, items: &[Item])
+/// All parents of a file's classes, which are numbered from the first on.
+pub(crate) fn enter_parents(table: &mut Table, file: u32, first: u32, items: &[Item])
+    requires numbered { AreNumbered table.old file first items.now }
+    requires few { first + items_size (items_of no_items items.now) < 2 ^ 32 }
     ensures { table.new ≡ with_parents file table.old (items_of no_items items.now) }
 {
+    let mut class = first;
     for item in items {
-        enter_parent(table, file, item);
+        enter_parent(table, file, class, item);
+        class = next_class(class, item);
     }
 }
 
@@ -102,44 +102,52 @@ fn check_extended(
     }
 }
 
-/// Whether a class of the text may have its parent.
-fn check_class(table: &Table, file: u32, class: &ClassDef) -> Result<(), TypeFault>
+/// Whether a class of the text, of this number, may have its parent.
+fn check_class(table: &Table, file: u32, class: u32, def: &ClassDef) -> Result<(), TypeFault>
+    requires numbered { HasNumber table.now file class (class_item (view_class def.now)) }
     ensures fine { OnOk result
-        (parent_checked file table.now (class_item (view_class class.now)) ≡ gives table.now) }
+        (parent_checked file table.now (class_item (view_class def.now)) ≡ gives table.now) }
     ensures refused { IfErr result
-        (λ why. parent_checked file table.now (class_item (view_class class.now)) ≡ fault why) }
+        (λ why. parent_checked file table.now (class_item (view_class def.now)) ≡ fault why) }
 {
-    match &class.parent {
-        Some(parent) => {
-            let own = own_class_or_object(table, file, &class.name);
-            check_extended(table, file, class.line, own, parent)
-        }
+    match &def.parent {
+        Some(parent) => check_extended(table, file, def.line, class, parent),
         None => Ok(()),
     }
 }
 
-/// Whether an item that is a class may have its parent.
-fn check_parent(table: &Table, file: u32, item: &Item) -> Result<(), TypeFault>
+/// Whether an item that is a class, of this number, may have its parent.
+fn check_parent(table: &Table, file: u32, class: u32, item: &Item) -> Result<(), TypeFault>
+    requires numbered { HasNumber table.now file class (view_item item.now) }
     ensures fine { OnOk result
         (parent_checked file table.now (view_item item.now) ≡ gives table.now) }
     ensures refused { IfErr result
         (λ why. parent_checked file table.now (view_item item.now) ≡ fault why) }
 {
     match item {
-        Item::Class(class) => check_class(table, file, class),
+        Item::Class(def) => check_class(table, file, class, def),
         _ => Ok(()),
     }
 }
 
-/// Whether all classes of a file may have their parents.
-pub(crate) fn check_parents(table: &Table, file: u32, items: &[Item]) -> Result<(), TypeFault>
+/// Whether all classes of a file, which are numbered from the first on, may have their parents.
+pub(crate) fn check_parents(
+    table: &Table,
+    file: u32,
+    first: u32,
+    items: &[Item],
+) -> Result<(), TypeFault>
+    requires numbered { AreNumbered table.now file first items.now }
+    requires few { first + items_size (items_of no_items items.now) < 2 ^ 32 }
     ensures fine { OnOk result
         (parents_checked file table.now (items_of no_items items.now) ≡ gives table.now) }
     ensures refused { IfErr result
         (λ why. parents_checked file table.now (items_of no_items items.now) ≡ fault why) }
 {
+    let mut class = first;
     for item in items {
-        check_parent(table, file, item)?;
+        check_parent(table, file, class, item)?;
+        class = next_class(class, item);
     }
     Ok(())
 }

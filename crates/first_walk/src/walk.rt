@@ -12,11 +12,12 @@ ghost use Rattle.fixed_point.specs.Wanting.{out_of_memory};
 ghost use Rattle.type_table.specs.declared.fault.TypeFault.TheVariants.{Memory as memory};
 ghost use Rattle.first_walk.specs.FirstWalk.{with_class, enter_member as member_entered, enter_members as members_entered, has_statement, with_body, enter_item as item_entered, enter_items as items_entered, entered};
 ghost use Rattle.first_walk.specs.Room.{entries, declared, FileReady, HasRoom, HaveRoom};
+ghost use Rattle.first_walk.specs.Room.{HasNumber, AreNumbered};
 
-use crate::classes::{begin, enter_classes};
+use crate::classes::{begin, enter_classes, next_class};
 use crate::funs::{enter_fun, enter_method};
 use crate::heads::enter_heads;
-use crate::parents::{check_parents, enter_parents, find_below, own_class_or_object};
+use crate::parents::{check_parents, enter_parents, find_below};
 use crate::statements::enter_stmt;
 use ck_syntax::{ClassDef, File, Item, Member};
 use std::alloc::Global;
@@ -111,29 +112,37 @@ fn enter_body(
     Ok(())
 }
 
-/// A class of the text.
+/// A class of the text, of this number.
 fn enter_class_members(
     alloc: Global,
     table: &mut Table,
     file: u32,
-    class: &ClassDef,
+    class: u32,
+    def: &ClassDef,
 ) -> Result<(), TypeFault>
-    requires room { entries table.old + class_size (view_class class.now) < 2 ^ 32 }
-    requires own { HasRoom table.old file (class_size (view_class class.now))
-        (class_item (view_class class.now)) }
+    requires numbered { HasNumber table.old file class (class_item (view_class def.now)) }
+    requires room { entries table.old + class_size (view_class def.now) < 2 ^ 32 }
+    requires own { HasRoom table.old file (class_size (view_class def.now))
+        (class_item (view_class def.now)) }
     ensures entered { OnOk result
-        (item_entered file table.old (class_item (view_class class.now)) ≡ gives table.new) }
+        (item_entered file table.old (class_item (view_class def.now)) ≡ gives table.new) }
     ensures refused { IfErr result
         (λ why. IsFault why →
-        item_entered file table.old (class_item (view_class class.now)) ≡ fault why) }
+        item_entered file table.old (class_item (view_class def.now)) ≡ fault why) }
 {
-    let own = own_class_or_object(table, file, &class.name);
-    enter_body(alloc, table, own, class.members.items())?;
-    enter_members(alloc, table, file, own, class.members.items())
+    enter_body(alloc, table, class, def.members.items())?;
+    enter_members(alloc, table, file, class, def.members.items())
 }
 
-/// An item of a file.
-fn enter_item(alloc: Global, table: &mut Table, file: u32, item: &Item) -> Result<(), TypeFault>
+/// An item of a file. This is its number where it is a class.
+fn enter_item(
+    alloc: Global,
+    table: &mut Table,
+    file: u32,
+    class: u32,
+    item: &Item,
+) -> Result<(), TypeFault>
+    requires numbered { HasNumber table.old file class (view_item item.now) }
     requires room { entries table.old + item_size (view_item item.now) < 2 ^ 32 }
     requires own { HasRoom table.old file (item_size (view_item item.now)) (view_item item.now) }
     ensures entered { OnOk result
@@ -142,14 +151,22 @@ fn enter_item(alloc: Global, table: &mut Table, file: u32, item: &Item) -> Resul
         (λ why. IsFault why → item_entered file table.old (view_item item.now) ≡ fault why) }
 {
     match item {
-        Item::Class(class) => enter_class_members(alloc, table, file, class),
+        Item::Class(def) => enter_class_members(alloc, table, file, class, def),
         Item::Fun(fun) => enter_fun(alloc, table, file, fun),
         Item::Stmt(s) => enter_stmt(alloc, table, file, None, s),
     }
 }
 
-/// The items of a file.
-fn enter_items(alloc: Global, table: &mut Table, file: u32, items: &[Item]) -> Result<(), TypeFault>
+/// The items of a file, whose classes are numbered from the first on.
+fn enter_items(
+    alloc: Global,
+    table: &mut Table,
+    file: u32,
+    first: u32,
+    items: &[Item],
+) -> Result<(), TypeFault>
+    requires numbered { AreNumbered table.old file first items.now }
+    requires few { first + items_size (items_of no_items items.now) < 2 ^ 32 }
     requires room { entries table.old + items_size (items_of no_items items.now) < 2 ^ 32 }
     requires own { HaveRoom table.old file (items_size (items_of no_items items.now))
         (items_of no_items items.now) }
@@ -160,8 +177,10 @@ fn enter_items(alloc: Global, table: &mut Table, file: u32, items: &[Item]) -> R
         (λ why. IsFault why →
         items_entered file table.old (items_of no_items items.now) ≡ fault why) }
 {
+    let mut class = first;
     for item in items {
-        enter_item(alloc, table, file, item)?;
+        enter_item(alloc, table, file, class, item)?;
+        class = next_class(class, item);
     }
     Ok(())
 }
@@ -181,14 +200,17 @@ pub fn enter_file(alloc: Global, table: &mut Table, file: u32, raw: &File) -> Re
     ensures entered { OnOk result (entered table.old file (view_file raw.now) ≡ gives table.new) }
     ensures refused { IfErr result
         (λ why. IsFault why → entered table.old file (view_file raw.now) ≡ fault why) }
+    // its classes are numbered in text order, from how many there were on
+    ensures numbered { OnOk result
+        (AreNumbered table.new file (length table.old.classes) raw.now.items) }
 {
     let items = raw.items.items();
     let first = number(table.classes.len());
     begin(alloc, table)?;
     enter_classes(alloc, table, file, items)?;
-    enter_parents(table, file, items);
-    check_parents(table, file, items)?;
+    enter_parents(table, file, first, items);
+    check_parents(table, file, first, items)?;
     find_below(alloc, table, first)?;
-    enter_heads(alloc, table, file, items)?;
-    enter_items(alloc, table, file, items)
+    enter_heads(alloc, table, file, first, items)?;
+    enter_items(alloc, table, file, first, items)
 }

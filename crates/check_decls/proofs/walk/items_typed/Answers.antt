@@ -1,10 +1,11 @@
-use Rattle.std.proofs.Common.{rules, ◌≡◌, ◌∙◌, None, arith}
+use Rattle.std.proofs.Common.{rules, ◌≡◌, ◌∙◌, None, refl, arith}
 use Rattle.ck_syntax.specs.Tree.{no_items}
 use Rattle.ck_syntax.specs.View.{items_of}
 use Rattle.type_table.specs.Answer.{Fault, gives, refused}
 use Rattle.type_table.proofs.Walks.{on, ran_more, ran_all, ran_fault}
 use Rattle.type_table.proofs.Weights.{weight_next}
 use Rattle.check_scope.specs.Scope.{new_scope}
+use Rattle.first_walk.proofs.Numbered.{number_next, numbers_next, few_next}
 use Rattle.program_laws.specs.Programs.{begun, items_typed}
 use Rattle.check_decls.specs.ProgramView.{view_walked}
 use Rattle.check_decls.proofs.DeclWalks.{one_item, items_run}
@@ -36,6 +37,10 @@ returns-clause-typed c =
 pub add_item-requires : goal.add_item-requires
 add_item-requires c =
     record {
+      numbered =
+          number_next c.args.table.now c.args.file c.loop-item.class c.args.items.now
+          c.loop-item.item-index c.item-item.result c.loop-item-test.true c.item-item.is
+          c.loop-item.invariant.numbered;
       room =
           omega (
             arith,
@@ -46,6 +51,20 @@ add_item-requires c =
       numbers =
           omega (
             arith,
+            items_weigh c.args.items.now,
+            weight_next weights.one_item c.args.items.now c.loop-item.item-index
+                c.item-item.result c.loop-item-test.true c.item-item.is,
+          );
+    }
+
+pub next_class-class-requires : goal.next_class-class-requires
+next_class-class-requires c =
+    record {
+      few =
+          omega (
+            arith,
+            c.requires.few,
+            c.loop-item.invariant.few,
             items_weigh c.args.items.now,
             weight_next weights.one_item c.args.items.now c.loop-item.item-index
                 c.item-item.result c.loop-item-test.true c.item-item.is,
@@ -74,4 +93,13 @@ loop-item-preserved c =
             weight_next weights.one_item c.args.items.now c.loop-item.item-index
                 c.item-item.result c.loop-item-test.true c.item-item.is,
           );
+      numbered =
+          numbers_next c.args.table.now c.args.table.now c.args.file (λ n. refl)
+          c.loop-item.class c.next_class-class.result c.args.items.now c.loop-item.item-index
+          c.item-item.result c.loop-item-test.true c.item-item.is c.next_class-class.ensures
+          c.loop-item.invariant.numbered;
+      few =
+          few_next c.loop-item.class c.next_class-class.result c.args.first c.args.items.now
+          c.loop-item.item-index c.item-item.result c.loop-item-test.true c.item-item.is
+          c.next_class-class.ensures c.loop-item.invariant.few;
     }

@@ -3,6 +3,7 @@ use Rattle.type_table.specs.Answer.{gives}
 use Rattle.type_table.proofs.Walks.{Ran, on}
 use Rattle.type_table.proofs.Weights.{weight}
 use Rattle.check_scope.specs.Scope.{new_scope}
+use Rattle.first_walk.specs.Room.{AreNumbered}
 use Rattle.program_laws.specs.Programs.{begun}
 use Rattle.check_decls.specs.ProgramView.{view_walked}
 use Rattle.check_decls.proofs.DeclWalks.{one_item}
@@ -21,4 +22,8 @@ invariant-loop-item l =
       more :
           length l.walked.funs.items + weight weights.one_item (drop l.item-index l.items)
           ≤ weight weights.one_item l.items;
+      numbered : AreNumbered l.table l.file l.class (drop l.item-index l.items);
+      few :
+          l.class + weight weights.one_item (drop l.item-index l.items)
+          ≤ l.first + weight weights.one_item l.items;
     }

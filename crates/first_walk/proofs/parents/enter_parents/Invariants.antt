@@ -1,6 +1,17 @@
+use Rattle.std.proofs.Common.{◌+◌, ◌≤◌, drop}
 use Rattle.type_table.proofs.Walks.{Ran}
+use Rattle.type_table.proofs.Weights as weights
+use Rattle.type_table.proofs.Weights.{weight}
+use Rattle.first_walk.specs.Room.{AreNumbered}
 use Rattle.first_walk.proofs.ItemWalks.{parent_item}
 use Rattle.first_walk.proofs.parents.enter_parents.Given as goal
 
 abbrev pub invariant-loop-item : goal.invariant-loop-item
-invariant-loop-item l = Ran (parent_item l.file) l.fn.table l.items l.item-index l.table
+invariant-loop-item l =
+    record {
+      so_far : Ran (parent_item l.file) l.fn.table l.items l.item-index l.table;
+      numbered : AreNumbered l.table l.file l.class (drop l.item-index l.items);
+      few :
+          l.class + weight weights.one_item (drop l.item-index l.items)
+          ≤ l.first + weight weights.one_item l.items;
+    }

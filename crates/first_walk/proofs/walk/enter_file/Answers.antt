@@ -1,13 +1,14 @@
-use Rattle.std.proofs.Common.{◌≡◌, List, ap, subst, ◌∙◌, sym, arith}
+use Rattle.std.proofs.Common.{rules, ◌≡◌, List, length, ap, subst, ◌∙◌, sym, arith}
 use Rattle.ck_syntax.specs.declared.file.Item.{Item}
 use Rattle.ck_syntax.specs.Size.{items_size}
 use Rattle.ck_syntax.specs.Tree.{File, no_items}
 use Rattle.ck_syntax.specs.View.{items_of}
 use Rattle.type_table.specs.Answer.{gives}
 use Rattle.type_table.specs.Table.{Table}
-use Rattle.first_walk.specs.FirstWalk.{begun, with_classes, with_parents, with_heads}
-use Rattle.first_walk.specs.Room.{entries, FileReady, HaveRoom}
+use Rattle.first_walk.specs.FirstWalk.{begun, with_classes, with_parents, with_heads, enter_items}
+use Rattle.first_walk.specs.Room.{entries, FileReady, HaveRoom, AreNumbered}
 use Rattle.first_walk.proofs.Fresh.{file_ready, file_room}
+use Rattle.first_walk.proofs.Numbered.{named_numbered, parented_numbered, headed_numbered, entered_numbered}
 use Rattle.first_walk.proofs.Measures.{begun_more, counts_entries}
 use Rattle.first_walk.proofs.RoomFacts.{classes_grow, parents_kept, heads_kept}
 use Rattle.first_walk.proofs.walk.enter_file.Goals as goal
@@ -29,6 +30,48 @@ find_below-requires c =
           );
     }
 
+pub enter_parents-requires-clause-numbered : goal.enter_parents-requires-clause-numbered
+enter_parents-requires-clause-numbered c =
+    let raw : File = items_of no_items c.items-items.result.now in
+    let named : with_classes c.args.file (begun c.args.table.now) raw ≡ gives c.enter_classes.new.table =
+    subst (λ (t : Table). with_classes c.args.file t raw ≡ gives c.enter_classes.new.table)
+    c.in_ok-begin.ensures.begun c.in_ok-enter_classes.ensures.entered in
+    let first : length c.args.table.now.classes ≡ c.number-first.result = omega
+    (arith, c.number-first.ensures, c.len.ensures, ap (λ (t : Table). length t.classes) c.table.view_is) in
+    subst (λ k. AreNumbered c.enter_classes.new.table c.args.file k c.items-items.result.now) first
+    (named_numbered c.args.table.now c.args.file c.requires.built_in c.requires.next c.items-items.result.now
+    c.enter_classes.new.table named)
+
+pub check_parents-requires-clause-numbered : goal.check_parents-requires-clause-numbered
+check_parents-requires-clause-numbered c =
+    let raw : File = items_of no_items c.items-items.result.now in
+    let named : with_classes c.args.file (begun c.args.table.now) raw ≡ gives c.enter_classes.new.table =
+    subst (λ (t : Table). with_classes c.args.file t raw ≡ gives c.enter_classes.new.table)
+    c.in_ok-begin.ensures.begun c.in_ok-enter_classes.ensures.entered in
+    let first : length c.args.table.now.classes ≡ c.number-first.result = omega
+    (arith, c.number-first.ensures, c.len.ensures, ap (λ (t : Table). length t.classes) c.table.view_is) in
+    subst (λ t. AreNumbered t c.args.file c.number-first.result c.items-items.result.now)
+    (sym (c.enter_parents.ensures))
+    (subst (λ k. AreNumbered (with_parents c.args.file c.enter_classes.new.table raw) c.args.file k
+    c.items-items.result.now) first
+    (parented_numbered c.args.table.now c.args.file c.requires.built_in c.requires.next c.items-items.result.now
+    c.enter_classes.new.table named))
+
+pub enter_heads-requires-clause-numbered : goal.enter_heads-requires-clause-numbered
+enter_heads-requires-clause-numbered c =
+    let raw : File = items_of no_items c.items-items.result.now in
+    let named : with_classes c.args.file (begun c.args.table.now) raw ≡ gives c.enter_classes.new.table =
+    subst (λ (t : Table). with_classes c.args.file t raw ≡ gives c.enter_classes.new.table)
+    c.in_ok-begin.ensures.begun c.in_ok-enter_classes.ensures.entered in
+    let first : length c.args.table.now.classes ≡ c.number-first.result = omega
+    (arith, c.number-first.ensures, c.len.ensures, ap (λ (t : Table). length t.classes) c.table.view_is) in
+    subst (λ t. AreNumbered t c.args.file c.number-first.result c.items-items.result.now)
+    (sym (c.in_ok-find_below.ensures ∙ c.enter_parents.ensures))
+    (subst (λ k. AreNumbered (with_parents c.args.file c.enter_classes.new.table raw) c.args.file k
+    c.items-items.result.now) first
+    (parented_numbered c.args.table.now c.args.file c.requires.built_in c.requires.next c.items-items.result.now
+    c.enter_classes.new.table named))
+
 pub enter_items-requires : goal.enter_items-requires
 enter_items-requires c =
     let raw : File = items_of no_items c.items-items.result.now in
@@ -41,7 +84,15 @@ enter_items-requires c =
     let is : c.enter_heads.new.table ≡ heads =
     c.in_ok-enter_heads.ensures.added
     ∙ ap (λ t. with_heads c.args.file t raw) (c.in_ok-find_below.ensures ∙ c.enter_parents.ensures) in
+    let first : length c.args.table.now.classes ≡ c.number-first.result = omega
+    (arith, c.number-first.ensures, c.len.ensures, ap (λ (t : Table). length t.classes) c.table.view_is) in
     record {
+      numbered =
+          subst (λ t. AreNumbered t c.args.file c.number-first.result c.items-items.result.now) (sym is)
+          (subst (λ k. AreNumbered heads c.args.file k c.items-items.result.now) first
+          (headed_numbered c.args.table.now c.args.file c.requires.built_in c.requires.next
+          c.items-items.result.now c.enter_classes.new.table named));
+      few = omega (arith, same, c.requires.room, first);
       room =
           omega (
             arith,
@@ -64,3 +115,22 @@ enter_items-requires c =
           (file_ready c.args.table.now c.args.file c.requires.built_in c.requires.next raw c.enter_classes.new.table
           named);
     }
+
+pub returns-clause-numbered : goal.returns-clause-numbered
+returns-clause-numbered c =
+    let raw : File = items_of no_items c.items-items.result.now in
+    let named : with_classes c.args.file (begun c.args.table.now) raw ≡ gives c.enter_classes.new.table =
+    subst (λ (t : Table). with_classes c.args.file t raw ≡ gives c.enter_classes.new.table)
+    c.in_ok-begin.ensures.begun c.in_ok-enter_classes.ensures.entered in
+    let heads : Table = with_heads c.args.file (with_parents c.args.file c.enter_classes.new.table raw) raw in
+    let is : c.enter_heads.new.table ≡ heads =
+    c.in_ok-enter_heads.ensures.added
+    ∙ ap (λ t. with_heads c.args.file t raw) (c.in_ok-find_below.ensures ∙ c.enter_parents.ensures) in
+    let stay : enter_items c.args.file c.enter_heads.new.table raw ≡ gives c.enter_items.new.table
+    → AreNumbered c.enter_items.new.table c.args.file (length c.args.table.now.classes) c.args.raw.now.items =
+    λ gave. subst (λ xs. AreNumbered c.enter_items.new.table c.args.file (length c.args.table.now.classes) xs)
+    c.items-items.ensures
+    (entered_numbered c.args.table.now c.args.file c.requires.built_in c.requires.next
+    c.items-items.result.now c.enter_classes.new.table named c.enter_items.new.table
+    (ap (λ t. enter_items c.args.file t raw) (sym is) ∙ gave)) in
+    search (rules, stay)

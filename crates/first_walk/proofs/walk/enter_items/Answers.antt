@@ -13,6 +13,7 @@ use Rattle.first_walk.specs.Room.{entries, declared}
 use Rattle.first_walk.proofs.DeclaredFrame.{keeps_self, keeps_then, same_own_class}
 use Rattle.first_walk.proofs.DeclaredWalks.{file_ready_kept, item_keeps}
 use Rattle.first_walk.proofs.Fresh.{item_has, room_later, weight_left}
+use Rattle.first_walk.proofs.Numbered.{number_next, numbers_next, few_next}
 use Rattle.first_walk.proofs.Measures.{counts_entries, counts_declared}
 use Rattle.first_walk.proofs.RoomFacts.{item_grows}
 use Rattle.first_walk.proofs.walk.enter_items.Goals as goal
@@ -34,6 +35,10 @@ enter_item-requires c =
     c.item-item.is in
     let all = items_weigh c.args.items.now in
     record {
+      numbered =
+          number_next c.loop-item.table c.args.file c.loop-item.class c.args.items.now c.loop-item.item-index
+          c.item-item.result c.loop-item-test.true c.item-item.is
+          c.loop-item.invariant.numbered;
       room = omega (arith, all, next);
       own =
           room_later c.args.table.now c.loop-item.table c.args.file (items_size (items_of no_items c.args.items.now))
@@ -47,12 +52,28 @@ enter_item-requires c =
           c.loop-item-test.true c.item-item.is));
     }
 
+pub next_class-class-requires : goal.next_class-class-requires
+next_class-class-requires c =
+    record {
+      few =
+          omega (
+            arith,
+            c.requires.few,
+            c.loop-item.invariant.few,
+            items_weigh c.args.items.now,
+            weight_next weights.one_item c.args.items.now c.loop-item.item-index c.item-item.result
+                c.loop-item-test.true c.item-item.is,
+          );
+    }
+
 pub loop-item-init : goal.loop-item-init
 loop-item-init c =
     record {
       so_far = search rules;
       left = omega arith;
       keeps = keeps_self c.args.file c.args.table.now;
+      numbered = c.requires.numbered;
+      few = omega arith;
       own = λ d. omega arith;
     }
 
@@ -61,6 +82,10 @@ loop-item-preserved c =
     let next =
     weight_next weights.one_item c.args.items.now c.loop-item.item-index c.item-item.result c.loop-item-test.true
     c.item-item.is in
+    let kept =
+    item_keeps c.args.file c.loop-item.table c.enter_item.new.table (view_item c.item-item.result)
+    (file_ready_kept c.args.file c.args.table.now c.loop-item.table c.loop-item.invariant.keeps c.requires.ready)
+    c.in_ok-enter_item.ensures.entered in
     record {
       so_far =
           ran_more (on (one_item c.args.file)) (gives c.args.table.now) c.args.items.now c.loop-item.item-index
@@ -75,10 +100,16 @@ loop-item-preserved c =
           );
       keeps =
           keeps_then c.args.file c.args.table.now c.loop-item.table c.enter_item.new.table
-          c.loop-item.invariant.keeps
-          (item_keeps c.args.file c.loop-item.table c.enter_item.new.table (view_item c.item-item.result)
-          (file_ready_kept c.args.file c.args.table.now c.loop-item.table c.loop-item.invariant.keeps c.requires.ready)
-          c.in_ok-enter_item.ensures.entered);
+          c.loop-item.invariant.keeps kept;
+      numbered =
+          numbers_next c.loop-item.table c.enter_item.new.table c.args.file
+          (same_own_class c.args.file c.loop-item.table c.enter_item.new.table kept) c.loop-item.class
+          c.next_class-class.result c.args.items.now c.loop-item.item-index c.item-item.result
+          c.loop-item-test.true c.item-item.is c.next_class-class.ensures c.loop-item.invariant.numbered;
+      few =
+          few_next c.loop-item.class c.next_class-class.result c.args.first c.args.items.now
+          c.loop-item.item-index c.item-item.result c.loop-item-test.true c.item-item.is
+          c.next_class-class.ensures c.loop-item.invariant.few;
       own =
           λ d. omega (
             arith,

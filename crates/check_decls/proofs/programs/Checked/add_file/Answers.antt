@@ -1,10 +1,10 @@
-use Rattle.std.proofs.Common.{List, length, arith, ap}
+use Rattle.std.proofs.Common.{◌≡◌, List, length, arith, ap, sym, subst}
 use Rattle.ck_syntax.specs.declared.file.Item.{Item}
 use Rattle.ck_syntax.specs.Size.{items_size}
 use Rattle.ck_syntax.specs.Tree.{no_items}
 use Rattle.ck_syntax.specs.View.{view_file, items_of}
 use Rattle.type_table.specs.Table.{Table}
-use Rattle.first_walk.specs.Room.{entries}
+use Rattle.first_walk.specs.Room.{entries, AreNumbered}
 use Rattle.first_walk.proofs.Measures.{begun_more, begun_main, counts_entries, counts_main, main_of}
 use Rattle.first_walk.proofs.RoomFacts.{file_grows}
 use Rattle.check_decls.proofs.programs.Checked.add_file.Goals as goal
@@ -29,7 +29,31 @@ items_typed-requires c =
     let begun =
     begun_main c.deref_mut.result.now c.args.file
     (omega (arith, c.requires.next, ap (λ (t : Table). length t.files) c.deref_mut.ensures.value)) in
+    let first : length c.deref_mut.result.now.classes ≡ c.number-first.result =
+    omega (
+      arith,
+      c.number-first.ensures,
+      c.len.ensures,
+      ap (λ (t : Table). length t.classes) c.behind-self.view_is,
+      ap (λ (t : Table). length t.classes) c.deref.ensures,
+      ap (λ (t : Table). length t.classes) c.deref_mut.ensures.value,
+    ) in
     record {
+      numbered =
+          subst (λ (t : Table). AreNumbered t c.args.file c.number-first.result c.items.result.now)
+          (sym c.deref-2.ensures)
+          (subst (λ xs. AreNumbered c.enter_file.new.table c.args.file c.number-first.result xs)
+          (sym c.items.ensures)
+          (subst (λ n. AreNumbered c.enter_file.new.table c.args.file n c.args.raw.now.items) first
+          c.in_ok-enter_file.ensures.numbered));
+      few = omega (
+        arith,
+        c.requires.short,
+        c.requires.room,
+        items,
+        first,
+        ap entries c.deref_mut.ensures.value,
+      );
       room = omega (arith, c.requires.short, items);
       numbers =
           omega (
@@ -40,7 +64,7 @@ items_typed-requires c =
             main,
             begun,
             ap entries c.deref_mut.ensures.value,
-            ap (main_of c.args.file) c.deref.ensures,
+            ap (main_of c.args.file) c.deref-2.ensures,
           );
     }
 
