@@ -47,6 +47,6 @@ returns-else-n-eq0 c =
     let right = sources_on cs Right dac in
     turn_wired cs c.args.sources.now left right c.args.nodes.now c.sound.new.nodes c.args.n
     c.requires.wired refl refl
-    (turn_other c.args.sources.now left right _ c.index-sources-n.result c.args.nodes.now
+    (turn_other c.args.sources.now left right _ c.index-sources-n-else-n-eq0.result c.args.nodes.now
     c.sound.new.nodes c.args.n other (rw c.requires.count c.requires.node)
-    (c.nodes-mine.ensures ∙ c.index-sources-n.is) c.sound.ensures)
+    c.index-sources-n-else-n-eq0.is c.sound.ensures)
