@@ -1,8 +1,9 @@
 -- The walks over the parameters of a function, the members of a class, the items of a file, and
 -- files.
 use Rattle.std.proofs.Common.{◌≡◌, ◌∙◌, ℕ, ◌+◌, ◌<◌, ◌≤◌, List, [], ◌∷◌, length, drop, get_or, map}
-use Rattle.std.proofs.Common.{refl, sym, ap}
+use Rattle.std.proofs.Common.{slice_get, refl, sym, ap}
 use Rattle.std.proofs.lemmas.List.{drop_more, drop_all}
+use Rattle.ck_values.specs.declared.kind.Kind.{Kind}
 use Rattle.ck_syntax.specs.declared.file.File.{File as ParsedFile}
 use Rattle.ck_syntax.specs.declared.file.Item.{Item}
 use Rattle.ck_syntax.specs.declared.file.Member.{Member}
@@ -11,22 +12,48 @@ use Rattle.ck_syntax.specs.Tree.{Params, and_param, Members, and_member, File, a
 use Rattle.ck_syntax.specs.View.{params_of, view_member, members_of, view_item, items_of, view_file}
 use Rattle.type_table.specs.Answer.{Answer, Fault, gives, refused, and_then}
 use Rattle.type_table.specs.Table.{Table}
-use Rattle.first_walk.specs.FirstWalk.{param_kind}
 use Rattle.type_table.proofs.Walks.{run, on}
 use Rattle.check_scope.specs.Scope.{Scope, or_void}
-use Rattle.program_laws.specs.Programs.{with_param, with_params, Walked, and_member_typed}
+use Rattle.program_laws.specs.Programs.{with_param, count, with_params, Walked, and_member_typed}
 use Rattle.program_laws.specs.Programs.{members_typed, and_item_typed, items_typed, Checked}
 use Rattle.program_laws.specs.Programs.{file_checked, files_from}
 
-module _ (t : Table) (l : ℕ) where
-  abbrev pub one_param : Scope → Param → Answer Scope
-  one_param s p = with_param s l p.name (or_void (param_kind t s.file p))
+-- parameters by their places
+module _ (types : List Kind) (l : ℕ) where
+  abbrev pub one_param : (place : ℕ) → Scope → Param → Answer Scope
+  one_param i s p = with_param s l p.name (or_void (slice_get types i))
 
-  pub params_run : (s : Scope) (before : Params) (params : List Param)
-      → with_params t s l (params_of before params)
-      ≡ run (on one_param) (with_params t s l before) params
-  params_run s before [] = refl
-  params_run s before (p ∷ params) = params_run s (and_param before p) params
+  -- those from this place on
+  abbrev pub and_params : Answer Scope → (place : ℕ) → List Param → Answer Scope
+  and_params a i [] = a
+  and_params a i (p ∷ ps) = and_params (and_then a (λ s. one_param i s p)) (i + 1) ps
+
+  pub params_from : (s : Scope) (before : Params) (params : List Param)
+      → with_params types s l (params_of before params)
+      ≡ and_params (with_params types s l before) (count before) params
+  params_from s before [] = refl
+  params_from s before (p ∷ params) = params_from s (and_param before p) params
+
+  still : (why : Fault) (i : ℕ) (ps : List Param) → and_params (refused why) i ps ≡ refused why
+  still why i [] = refl
+  still why i (p ∷ ps) = still why (i + 1) ps
+
+  module _ (ps : List Param) (i : ℕ) (s : Scope) where
+    pub params_end : length ps ≤ i → and_params (gives s) i (drop i ps) ≡ gives s
+    params_end le = ap (and_params (gives s) i) (drop_all i ps le)
+
+    module _ (p : Param) (lt : i < length ps) (is : p ≡ get_or ps i p) where
+      pub params_next : and_params (gives s) i (drop i ps)
+          ≡ and_params (one_param i s p) (i + 1) (drop (i + 1) ps)
+      params_next =
+          ap (and_params (gives s) i) (drop_more ps i p lt)
+          ∙ ap (λ q. and_params (one_param i s q) (i + 1) (drop (i + 1) ps)) (sym is)
+
+      pub params_fault : (why : Fault) → one_param i s p ≡ refused why
+          → and_params (gives s) i (drop i ps) ≡ refused why
+      params_fault why stops =
+          params_next ∙ ap (λ a. and_params a (i + 1) (drop (i + 1) ps)) stops
+          ∙ still why (i + 1) (drop (i + 1) ps)
 
 module _ (t : Table) (f : ℕ) where
   abbrev pub one_member : (class first : ℕ) → Walked → Member → Answer Walked

@@ -1,5 +1,6 @@
 -- What the definition says of functions, classes and files that stand in memory.
 use Rattle.std.specs.Prelude.{ℕ, List, map, Option}
+use Rattle.ck_values.specs.declared.kind.Kind.{Kind}
 use Rattle.ck_syntax.specs.declared.file.ClassDef.{ClassDef}
 use Rattle.ck_syntax.specs.declared.file.File.{File}
 use Rattle.ck_syntax.specs.declared.file.FunDef.{FunDef}
@@ -12,9 +13,8 @@ use Rattle.ck_syntax.specs.View.{view_stmt, stmts_of, params_of, view_fun, view_
 use Rattle.ck_syntax.specs.View.{view_class, view_item, items_of, view_file}
 use Rattle.ck_typed.specs.Tree.{Fun}
 use Rattle.type_table.specs.Answer.{Answer}
-use Rattle.first_walk.specs.FirstWalk.{param_kind}
 use Rattle.type_table.specs.Table.{Table}
-use Rattle.check_scope.specs.Scope.{Scope, or_void}
+use Rattle.check_scope.specs.Scope.{Scope}
 use Rattle.check_decls.specs.declared.programs.Checked.{Checked as CheckedFiles}
 use Rattle.check_decls.specs.declared.walk.Walked.{Walked as WalkedItems}
 use Rattle.program_laws.specs.Programs as of
@@ -23,11 +23,8 @@ use Rattle.check_decls.specs.ProgramView.{view_walked, view_checked}
 
 -- functions -------------------------------------------------------------------------------------
 
-abbrev pub param : Table → Scope → (line : ℕ) → Param → Answer Scope
-param t s l p = of.with_param s l p.name (or_void (param_kind t s.file p))
-
-abbrev pub params : Table → Scope → (line : ℕ) → List Param → Answer Scope
-params t s l ps = of.with_params t s l (params_of no_params ps)
+abbrev pub params : (types : List Kind) → Scope → (line : ℕ) → List Param → Answer Scope
+params types s l ps = of.with_params types s l (params_of no_params ps)
 
 abbrev pub fun_with : Table → (number line : ℕ) → List Stmt → Scope → Answer Fun
 fun_with t f l body s = of.fun_with t f l (stmts_of no_stmts body) s

@@ -1,11 +1,11 @@
 //! Functions: their parameters, and the statements of their bodies.
-ghost use Rattle.std.specs.Prelude.{◌≡◌, ◌+◌, ◌^◌, ◌<◌, ◌≤◌, length, Some, OnOk, IfOk, IfErr};
+ghost use Rattle.std.specs.Prelude.{◌≡◌, ◌+◌, ◌^◌, ◌<◌, ◌≤◌, length, Some, slice_get, OnOk, IfOk, IfErr};
 ghost use Rattle.ck_syntax.specs.Size.{params_size, stmts_size, fun_size};
 ghost use Rattle.ck_syntax.specs.Tree.{no_params, no_stmts};
 ghost use Rattle.ck_syntax.specs.View.{params_of, stmts_of, view_fun};
 ghost use Rattle.ck_typed.specs.Standing.{given as given_kind};
 ghost use Rattle.ck_typed.specs.View.{view_fun as view_typed_fun};
-ghost use Rattle.check_scope.specs.Scope.{new_scope};
+ghost use Rattle.check_scope.specs.Scope.{new_scope, or_void};
 ghost use Rattle.check_decls.specs.Outcomes.{IsRefused};
 ghost use Rattle.check_decls.specs.ProgramTyping as typing;
 ghost use Rattle.program_laws.specs.Programs as definition;
@@ -21,7 +21,6 @@ use ck_base::{List, Text};
 use ck_syntax::{FunDef, Param, Stmt};
 use ck_typed::{TypedFun, TypedStmt};
 use ck_values::{Elem, Kind};
-use first_walk::param_kind;
 use program_laws::Surroundings;
 use std::alloc::Global;
 use type_table::{Table, TypeFault};
@@ -65,29 +64,38 @@ fn fun_scope(
     }
 }
 
-/// Declares a parameter of a function at this line.
+/// The type of the parameter behind so many.
+fn type_at(types: &[Kind], place: usize) -> Kind
+    ensures { result ≡ or_void (slice_get types.now place) }
+{
+    match types.get(place) {
+        Some(kind) => *kind,
+        None => Kind::Void,
+    }
+}
+
+/// Declares a parameter of this type at this line.
 fn declare_param(
     alloc: Global,
-    table: &Table,
     scope: &mut Scope,
     line: u32,
-    param: &Param,
+    name: &Text,
+    kind: Kind,
 ) -> Result<(), TypeFault>
     requires few { length scope.old.locals < 2 ^ 32 }
     ensures declared { OnOk result
-        (typing.param table.now scope.old line param.now ≡ gives scope.new) }
-    ensures refused { IsRefused result (typing.param table.now scope.old line param.now) }
+        (definition.with_param scope.old line name.now kind ≡ gives scope.new) }
+    ensures refused { IsRefused result (definition.with_param scope.old line name.now kind) }
     ensures grown { length scope.new.locals ≤ length scope.old.locals + 1 }
 {
-    let kind = param_kind(table, scope.file(), param).unwrap_or(Kind::Void);
-    scope.declare(alloc, &param.name, kind, line)?;
+    scope.declare(alloc, name, kind, line)?;
     Ok(())
 }
 
-/// Declares the parameters of a function in their order.
+/// Declares the parameters of a function in their order. These are the types that its head has.
 fn declare_params(
     alloc: Global,
-    table: &Table,
+    types: &[Kind],
     scope: &mut Scope,
     line: u32,
     params: &[Param],
@@ -95,13 +103,14 @@ fn declare_params(
     requires room { length scope.old.locals
         + params_size (params_of no_params params.now) < 2 ^ 32 }
     ensures declared { OnOk result
-        (typing.params table.now scope.old line params.now ≡ gives scope.new) }
-    ensures refused { IsRefused result (typing.params table.now scope.old line params.now) }
+        (typing.params types.now scope.old line params.now ≡ gives scope.new) }
+    ensures refused { IsRefused result (typing.params types.now scope.old line params.now) }
     ensures grown { length scope.new.locals ≤ length scope.old.locals
         + params_size (params_of no_params params.now) }
 {
-    for param in params {
-        declare_param(alloc, table, scope, line, param)?;
+    for (place, param) in params.iter().enumerate() {
+        let kind = type_at(types, place);
+        declare_param(alloc, scope, line, &param.name, kind)?;
     }
     Ok(())
 }
@@ -177,6 +186,7 @@ pub(crate) fn fun_typed(
     ensures refused { IsRefused result (typing.fun_typed table.now file class number fun.now) }
 {
     let mut scope = fun_scope(alloc, file, class, number, fun.is_static)?;
-    declare_params(alloc, table, &mut scope, fun.line, fun.params.items())?;
+    let types = table.params(number);
+    declare_params(alloc, types, &mut scope, fun.line, fun.params.items())?;
     fun_with(alloc, table, number, fun.line, fun.body.items(), scope)
 }

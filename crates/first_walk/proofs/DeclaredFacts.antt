@@ -1,6 +1,6 @@
 -- After the first walk of a file each declaration of its text that stands in no function and in no block is found by
 -- its name, with the type that it writes.
-use Rattle.std.proofs.Common.{◌≡◌, ℕ, zero, suc, ◌+◌, ◌<◌, Bool, true, false, ◌||◌, List, [], ◌∷◌, ◌++◌, length, Option, Some, None, slice_get, if◌then◌else◌, sym, ap, ◌∙◌, subst, arith, length-append}
+use Rattle.std.proofs.Common.{◌≡◌, ℕ, zero, suc, ◌+◌, ◌<◌, Bool, true, false, ◌||◌, nat_eq, List, [], ◌∷◌, ◌++◌, length, Some, None, slice_get, if◌then◌else◌, sym, ap, ◌∙◌, subst, arith, length-append}
 use Rattle.std.specs.Str.{bytes_eq}
 use Rattle.std.proofs.lemmas.List.{length-set}
 use Rattle.std.proofs.lemmas.Option.{same_Some}
@@ -8,10 +8,10 @@ use Rattle.ck_syntax.specs.Tree as tree
 use Rattle.ck_syntax.specs.Tree.{Name, Members, no_members, and_member, fun_member, stmt_member, no_items, and_item, class_item, fun_item, stmt_item}
 use Rattle.type_table.specs.declared.fault.FaultKind.TheVariants.{UnknownName, Duplicate, BadClass}
 use Rattle.type_table.specs.Answer.{Answer, gives, and_then, wrong}
-use Rattle.first_walk.specs.FirstWalk.{begun, with_new_class, with_item_named, with_classes, own_class, with_parent, with_parents, check_extended, check_parent, check_parents, head_of, with_head, with_heads_of, with_item_heads, with_heads, enter_items, entered}
-use Rattle.type_table.specs.Names.{lookup, is_some, built_in, and_first}
+use Rattle.first_walk.specs.FirstWalk.{begun, with_new_class, with_item_named, with_classes, own_class, with_parent, with_parents, check_built_in, check_line, check_extended, check_parent, check_parents, head_of, with_head, with_heads_of, with_item_heads, with_heads, enter_items, entered}
+use Rattle.type_table.specs.Names.{lookup, is_some, built_in, as_class, and_first}
 use Rattle.type_table.specs.declared.class.FileNames.{FileNames as File}
-use Rattle.type_table.specs.Table.{Table, no_file, or_no_file, file_of, class_of, class_named, named_class}
+use Rattle.type_table.specs.Table.{Table, no_file, or_no_file, file_of, class_of, class_named, named_class, parent}
 use Rattle.type_rules.specs.Fitting.{is_below}
 use Rattle.type_table.proofs.Ranges.{many}
 use Rattle.first_walk.specs.Room.{FileReady}
@@ -97,12 +97,15 @@ module _ (f : ℕ) where
   parents_ready t (and_item xs x) is = parent_ready (with_parents f t xs) x (parents_ready t xs is)
 
   -- and tried
-  extended_ready : (t : Table) (l c : ℕ) (n : Name) (p : Option ℕ) → FileReady f t → GivesSuch (FileReady f) (check_extended t f l c n p)
-  extended_ready t l c n (Some p) is = gives_if (FileReady f) (is_below t.parents c 0) (gives t) (wrong f l BadClass) (λ e. is) (λ e. tt)
-  extended_ready t l c n None is = gives_if (FileReady f) (is_some (built_in n)) (wrong f l BadClass) (wrong f l UnknownName) (λ e. tt) (λ e. tt)
+  extended_ready : (t : Table) (l c : ℕ) (n : Name) → FileReady f t → GivesSuch (FileReady f) (check_extended t f l c n)
+  extended_ready t l c n is =
+      gives_if (FileReady f) (nat_eq (parent t c) 0) (check_built_in t f l n) (check_line t f l c)
+      (λ _. gives_if (FileReady f) (is_some (as_class (built_in n))) (gives t) _ (λ e. is)
+      (λ _. gives_if (FileReady f) (is_some (built_in n)) (wrong f l BadClass) (wrong f l UnknownName) (λ e. tt) (λ e. tt)))
+      (λ _. gives_if (FileReady f) (is_below t.parents c 0) (gives t) (wrong f l BadClass) (λ e. is) (λ e. tt))
 
   check_ready : (t : Table) (x : tree.Item) → FileReady f t → GivesSuch (FileReady f) (check_parent f t x)
-  check_ready t (class_item (tree.class l is_public n (Some parent) ms)) is = extended_ready t l (own_class t f n) parent (class_named t f parent) is
+  check_ready t (class_item (tree.class l is_public n (Some extends) ms)) is = extended_ready t l (own_class t f n) extends is
   check_ready t (class_item (tree.class l is_public n None ms)) is = is
   check_ready t (fun_item g) is = is
   check_ready t (stmt_item s) is = is

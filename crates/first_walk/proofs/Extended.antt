@@ -1,13 +1,14 @@
 -- The parents of a file's classes: each is a class of the table, and each class stands below Object.
-use Rattle.std.proofs.Common.{◌≡◌, ℕ, ◌<◌, ◌≤◌, true, List, length, Option, Some, None, slice_get, slice_set, ◌⊎◌, inl, inr, ⊎_elim, refl, sym, ap, ◌∙◌, subst, arith}
+use Rattle.std.proofs.Common.{◌≡◌, ℕ, ◌<◌, ◌≤◌, true, nat_eq, List, length, Option, Some, None, slice_get, slice_set, ◌⊎◌, inl, inr, ⊎_elim, refl, sym, ap, ◌∙◌, subst, arith}
 use Rattle.std.proofs.lemmas.List.{length-set}
 use Rattle.ck_syntax.specs.Tree as tree
 use Rattle.ck_syntax.specs.Tree.{Name, Item, no_items, and_item, class_item, fun_item, stmt_item}
 use Rattle.type_rules.specs.Fitting.{parent_or, is_below}
+use Rattle.std.proofs.lemmas.Bool.{eqb-true}
 use Rattle.type_table.specs.Answer.{gives, wrong}
 use Rattle.type_table.specs.declared.fault.FaultKind.TheVariants.{BadClass, UnknownName}
-use Rattle.first_walk.specs.FirstWalk.{or_object, own_class, extended, with_parent, with_parents, check_line, check_extended, check_parent, check_parents}
-use Rattle.type_table.specs.Names.{is_some, built_in}
+use Rattle.first_walk.specs.FirstWalk.{or_object, own_class, extended, check_built_in, with_parent, with_parents, check_line, check_extended, check_parent, check_parents}
+use Rattle.type_table.specs.Names.{is_some, built_in, as_class}
 use Rattle.type_table.specs.Table.{Table, file_of, class_named, parent}
 use Rattle.type_table.proofs.Ranges.{Each, many}
 use Rattle.type_table.proofs.ListFacts.{Holds, get_set_other, set_cases, each_set, each_map}
@@ -92,12 +93,16 @@ module _ (t : Table) (f : ℕ) (owners : List (Option ℕ)) (two : 2 ≤ many t)
     line_checked : (l c : ℕ) → GivesSuch (λ v. (v ≡ w) × Below c) (check_line w f l c)
     line_checked l c = gives_if (λ v. (v ≡ w) × Below c) (is_below w.parents c 0) (gives w) (wrong f l BadClass) (λ is. (refl, is)) (λ e. tt)
 
-    extended_checked : (l c : ℕ) (n : Name) (o : Option ℕ) → GivesSuch (λ v. (v ≡ w) × Below c) (check_extended w f l c n o)
-    extended_checked l c n (Some p) = line_checked l c
-    extended_checked l c n None = gives_if (λ v. (v ≡ w) × Below c) (is_some (built_in n)) (wrong f l BadClass) (wrong f l UnknownName) (λ e. tt) (λ e. tt)
+    extended_checked : (l c : ℕ) (n : Name) → GivesSuch (λ v. (v ≡ w) × Below c) (check_extended w f l c n)
+    extended_checked l c n =
+        gives_if (λ v. (v ≡ w) × Below c) (nat_eq (parent w c) 0) (check_built_in w f l n) (check_line w f l c)
+        (λ e. gives_if (λ v. (v ≡ w) × Below c) (is_some (as_class (built_in n))) (gives w) _
+        (λ _. (refl, child_is_below w.parents c (eqb-true (parent w c) 0 e)))
+        (λ _. gives_if (λ v. (v ≡ w) × Below c) (is_some (built_in n)) (wrong f l BadClass) (wrong f l UnknownName) (λ _. tt) (λ _. tt)))
+        (λ _. line_checked l c)
 
     item_checked : (x : Item) → GivesSuch (λ v. (v ≡ w) × ExtendedHolds Below (own_class w f) x) (check_parent f w x)
-    item_checked (class_item (tree.class l p n (Some e) ms)) = extended_checked l (own_class w f n) e (class_named w f e)
+    item_checked (class_item (tree.class l p n (Some e) ms)) = extended_checked l (own_class w f n) e
     item_checked (class_item (tree.class l p n None ms)) = (refl, tt)
     item_checked (fun_item g) = (refl, tt)
     item_checked (stmt_item s) = (refl, tt)

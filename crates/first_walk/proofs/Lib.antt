@@ -40,3 +40,4 @@ pub mod Numbered
 pub mod Started
 pub mod EnterBase
 pub mod EnteredFacts
+pub mod KnownHeads

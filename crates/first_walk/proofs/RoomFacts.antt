@@ -1,6 +1,6 @@
 -- What grows by at most one with each thing that is entered grows in each part of the first walk by at most as much as
 -- its text has tokens.
-use Rattle.std.proofs.Common.{◌≡◌, ℕ, ◌+◌, ◌*◌, ◌≤◌, Bool, true, false, not, ◌||◌, List, Option, Some, None, slice_set, if◌then◌else◌, arith}
+use Rattle.std.proofs.Common.{◌≡◌, ℕ, ◌+◌, ◌*◌, ◌≤◌, Bool, true, false, not, ◌||◌, nat_eq, List, Option, Some, None, slice_set, if◌then◌else◌, arith}
 use Rattle.ck_values.specs.declared.kind.Kind.{Kind}
 use Rattle.ck_syntax.specs.declared.declaration.DeclHead.{DeclHead}
 use Rattle.ck_syntax.specs.declared.expr.Bracket.{Bracket, Empty, Size'}
@@ -12,8 +12,8 @@ use Rattle.type_rules.specs.Fitting.{is_below}
 use Rattle.type_table.specs.declared.class.Dispatch.{Dispatch}
 use Rattle.type_table.specs.declared.class.Head.{Head}
 use Rattle.type_table.specs.Answer.{Answer, gives, and_then}
-use Rattle.type_table.specs.Names.{is_some, built_in, and_first}
-use Rattle.type_table.specs.Table.{Table, class_of, ancestors, overridden, class_named}
+use Rattle.type_table.specs.Names.{is_some, built_in, as_class, and_first}
+use Rattle.type_table.specs.Table.{Table, class_of, parent, ancestors, overridden, class_named}
 use Rattle.type_table.specs.NameClash.{is_event_call, is_member_taken}
 use Rattle.type_table.specs.Types.{named_by, is_unknown, declared_kind, may_be_static}
 use Rattle.type_table.proofs.Weights as weights
@@ -84,14 +84,16 @@ module _ (m : Table → ℕ) (is_measure : IsMeasure m) (f : ℕ) where
   line_up : (n : ℕ) (t : Table) (l c : ℕ) → m t ≤ n → UpTo n (check_line t f l c)
   line_up n t l c le = if_up n (is_below t.parents c 0) _ _ le tt
 
-  extended_up : (n : ℕ) (t : Table) (l c : ℕ) (parent : Name) (p : Option ℕ) → m t ≤ n
-      → UpTo n (check_extended t f l c parent p)
-  extended_up n t l c parent (Some p) le = line_up n t l c le
-  extended_up n t l c parent None le = if_up n (is_some (built_in parent)) _ _ tt tt
+  extended_up : (n : ℕ) (t : Table) (l c : ℕ) (name : Name) → m t ≤ n
+      → UpTo n (check_extended t f l c name)
+  extended_up n t l c name le =
+      if_up n (nat_eq (parent t c) 0) _ _
+      (if_up n (is_some (as_class (built_in name))) _ _ le (if_up n (is_some (built_in name)) _ _ tt tt))
+      (line_up n t l c le)
 
   parent_up : (n : ℕ) (t : Table) (x : Item) → m t ≤ n → UpTo n (check_parent f t x)
-  parent_up n t (class_item (class l is_public name (Some parent) ms)) le =
-      extended_up n t l (own_class t f name) parent (class_named t f parent) le
+  parent_up n t (class_item (class l is_public name (Some extends) ms)) le =
+      extended_up n t l (own_class t f name) extends le
   parent_up n t (class_item (class l is_public name None ms)) le = le
   parent_up n t (fun_item g) le = le
   parent_up n t (stmt_item s) le = le

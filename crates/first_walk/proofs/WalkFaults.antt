@@ -1,5 +1,5 @@
 -- What is wrong in the first walk of a file stands in this file.
-use Rattle.std.proofs.Common.{ℕ, true, not, ◌||◌, Option, Some, None, refl}
+use Rattle.std.proofs.Common.{ℕ, true, not, nat_eq, ◌||◌, Option, Some, None, refl}
 use Rattle.ck_values.specs.declared.kind.Kind.{Kind}
 use Rattle.ck_syntax.specs.declared.declaration.DeclHead.{DeclHead}
 use Rattle.ck_syntax.specs.Tree as tree
@@ -8,8 +8,8 @@ use Rattle.type_rules.specs.Fitting.{is_below}
 use Rattle.first_walk.specs.FirstWalk.{begun, with_class_named, with_item_named, with_classes, own_class, with_parents, check_line, check_extended, check_parent, check_parents, head_of, has_unknown, with_heads, is_name_taken, may_override, enter_beside, enter_method_head, enter_method, enter_fun_head, enter_fun, is_taken, enter_of_kind, enter_declared, enter_expr, enter_exprs, enter_brackets, enter_declrs, enter_option, enter_stmt, enter_member, enter_members, with_body, enter_item, enter_items, entered}
 use Rattle.type_table.specs.Table.{ancestors, overridden}
 use Rattle.type_table.specs.NameClash.{is_event_call, is_member_taken}
-use Rattle.type_table.specs.Names.{is_some, built_in}
-use Rattle.type_table.specs.Table.{Table, class_named}
+use Rattle.type_table.specs.Names.{is_some, built_in, as_class}
+use Rattle.type_table.specs.Table.{Table, parent, class_named}
 use Rattle.type_table.specs.declared.class.Head.{Head}
 use Rattle.type_table.specs.Types.{named_by, is_unknown, declared_kind, may_be_static}
 use Rattle.type_table.proofs.FaultFiles.{InFile, then_in, if_in}
@@ -31,12 +31,14 @@ module _ (f : ℕ) where
   line_in : (t : Table) (l c : ℕ) → InFile f (check_line t f l c)
   line_in t l c = if_in f (is_below t.parents c 0) _ _ tt refl
 
-  extended_in : (t : Table) (l c : ℕ) (parent : Name) (p : Option ℕ) → InFile f (check_extended t f l c parent p)
-  extended_in t l c parent (Some p) = line_in t l c
-  extended_in t l c parent None = if_in f (is_some (built_in parent)) _ _ refl refl
+  extended_in : (t : Table) (l c : ℕ) (name : Name) → InFile f (check_extended t f l c name)
+  extended_in t l c name =
+      if_in f (nat_eq (parent t c) 0) _ _
+      (if_in f (is_some (as_class (built_in name))) _ _ tt (if_in f (is_some (built_in name)) _ _ refl refl))
+      (line_in t l c)
 
   parent_in : (t : Table) (x : Item) → InFile f (check_parent f t x)
-  parent_in t (class_item (class l is_public n (Some parent) ms)) = extended_in t l (own_class t f n) parent (class_named t f parent)
+  parent_in t (class_item (class l is_public n (Some extends) ms)) = extended_in t l (own_class t f n) extends
   parent_in t _ = tt
 
   parents_in : (t : Table) (xs : tree.File) → InFile f (check_parents f t xs)

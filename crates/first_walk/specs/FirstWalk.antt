@@ -1,6 +1,6 @@
 -- The first walk of a file: its classes are entered in text order, then their parents, then
 -- members, functions and file variables in text order.
-use Rattle.std.specs.Prelude.{ℕ, ◌+◌, Bool, true, false, not, ◌&&◌, ◌||◌, List, [], ◌∷◌, ◌++◌, length, Option, Some, None, slice_set, if◌then◌else◌}
+use Rattle.std.specs.Prelude.{ℕ, ◌+◌, Bool, true, false, not, ◌&&◌, ◌||◌, nat_eq, List, [], ◌∷◌, ◌++◌, length, Option, Some, None, slice_set, if◌then◌else◌}
 use Rattle.ck_values.specs.declared.kind.Kind.{Kind}
 use Rattle.ck_values.specs.declared.kind.Kind.TheVariants.{Void}
 use Rattle.ck_values.specs.declared.kind.Kind.TheVariants as kind
@@ -16,11 +16,11 @@ use Rattle.type_table.specs.declared.class.Dispatch.{Dispatch}
 use Rattle.type_table.specs.declared.class.Dispatch.TheVariants as by
 use Rattle.type_table.specs.declared.fault.FaultKind.TheVariants.{UnknownName, Duplicate, Mismatch, BadClass, BadPlace}
 use Rattle.type_table.specs.declared.table.Variable.{Variable}
-use Rattle.type_table.specs.Names.{lookup, and_first, is_some, built_in}
+use Rattle.type_table.specs.Names.{lookup, and_first, is_some, built_in, as_class}
 use Rattle.type_table.specs.declared.class.Class.{Class}
 use Rattle.type_table.specs.declared.class.Head.{Head}
 use Rattle.type_table.specs.declared.class.FileNames.{FileNames as File}
-use Rattle.type_table.specs.Table.{Table, no_file, plain_head, named_class, file_of, class_of, and_own, ancestors, overridden, class_named}
+use Rattle.type_table.specs.Table.{Table, no_file, plain_head, named_class, file_of, class_of, and_own, parent, ancestors, overridden, class_named}
 use Rattle.type_table.specs.NameClash.{is_event_call, is_member_taken}
 use Rattle.type_table.specs.Types.{named_by, is_unknown, value_kind, result_kind, declared_kind, may_be_static}
 
@@ -99,14 +99,20 @@ with_parents f t (and_item xs x) = with_parent f (with_parents f t xs) x
 abbrev pub check_line : Table → (file at class : ℕ) → Answer Table
 check_line t f l c = if is_below t.parents c 0 then gives t else wrong f l BadClass
 
-abbrev pub check_extended : Table → (file at class : ℕ) → Name → Option ℕ → Answer Table
-check_extended t f l c parent (Some p) = check_line t f l c
-check_extended t f l c parent None =
-    if is_some (built_in parent) then wrong f l BadClass else wrong f l UnknownName
+-- of what is built in, classes alone may be extended
+abbrev pub check_built_in : Table → (file at : ℕ) → Name → Answer Table
+check_built_in t f l n =
+    if is_some (as_class (built_in n)) then gives t
+    else if is_some (built_in n) then wrong f l BadClass else wrong f l UnknownName
+
+-- a class whose parent is `Object`, the class 0, names it, or what is no class
+abbrev pub check_extended : Table → (file at class : ℕ) → Name → Answer Table
+check_extended t f l c n =
+    if nat_eq (parent t c) 0 then check_built_in t f l n else check_line t f l c
 
 abbrev pub check_parent : (file : ℕ) → Table → Item → Answer Table
-check_parent f t (class_item (class l is_public n (Some parent) ms)) =
-    check_extended t f l (own_class t f n) parent (class_named t f parent)
+check_parent f t (class_item (class l is_public n (Some extends) ms)) =
+    check_extended t f l (own_class t f n) extends
 check_parent f t _ = gives t
 
 abbrev pub check_parents : (file : ℕ) → Table → tree.File → Answer Table

@@ -1,5 +1,5 @@
 //! Functions of files and of classes.
-ghost use Rattle.std.specs.Prelude.{◌≡◌, ◌<◌, ◌^◌, length, OnOk, IfOk, IfErr};
+ghost use Rattle.std.specs.Prelude.{◌≡◌, ◌<◌, ◌^◌, true, false, length, OnOk, IfOk, IfErr};
 ghost use Rattle.ck_base.specs.declared.limits.TheConstants.{MAX_FILE_TOKENS};
 ghost use Rattle.ck_syntax.specs.View.{view_fun};
 ghost use Rattle.type_table.specs.Answer.{gives, fault, IsFault};
@@ -7,8 +7,9 @@ ghost use Rattle.first_walk.specs.Room.{declared};
 ghost use Rattle.type_table.specs.Names.{and_first};
 ghost use Rattle.type_table.specs.Table.{class_of, file_of, ancestors, overridden};
 ghost use Rattle.fixed_point.specs.Wanting.{out_of_memory};
-ghost use Rattle.type_table.specs.declared.fault.TypeFault.TheVariants.{Memory as memory};
-ghost use Rattle.first_walk.specs.FirstWalk.{same_kind, same_kinds, same_types, may_override, new_dispatch, old_dispatch, slots_with, with_class, with_dispatch, with_method, enter_beside as entered_beside, enter_method_head as method_head_entered, enter_method as method_entered, with_file, with_fun, enter_fun_head as fun_head_entered, enter_fun as fun_entered};
+ghost use Rattle.type_table.specs.declared.fault.TypeFault.TheVariants.{Memory as memory, Typing};
+ghost use Rattle.type_table.specs.declared.fault.FaultKind.TheVariants.{UnknownName};
+ghost use Rattle.first_walk.specs.FirstWalk.{head_of as types_of, has_unknown as names_unknown, same_kind, same_kinds, same_types, may_override, new_dispatch, old_dispatch, slots_with, with_class, with_dispatch, with_method, enter_beside as entered_beside, enter_method_head as method_head_entered, enter_method as method_entered, with_file, with_fun, enter_fun_head as fun_head_entered, enter_fun as fun_entered};
 
 use crate::declarations::{add_member, is_name_taken};
 use crate::heads::{has_unknown, head_of};
@@ -199,6 +200,30 @@ fn enter_method_head(
     enter_beside(alloc, table, file, line, class, name, head)
 }
 
+/// The types of a function, where each is one. `UnknownName` comes where one of them has an unknown
+/// name.
+fn known_head(
+    alloc: Global,
+    table: &Table,
+    file: u32,
+    fun: &FunDef,
+) -> Result<Option<Head>, TypeFault>
+    ensures head { IfOk result (λ head. types_of table.now file (view_fun fun.now) ≡ head) }
+    ensures known { OnOk result (names_unknown table.now file (view_fun fun.now) ≡ false) }
+    ensures unknown { IfErr result (λ why. IsFault why →
+        names_unknown table.now file (view_fun fun.now) ≡ true) }
+    ensures refused { IfErr result (λ why. IsFault why →
+        why ≡ Typing file fun.now.line UnknownName) }
+{
+    match head_of(alloc, table, file, fun)? {
+        Some(head) => Ok(Some(head)),
+        None if has_unknown(table, file, fun) => {
+            Err(wrong(file, fun.line, FaultKind::UnknownName))
+        }
+        None => Ok(None),
+    }
+}
+
 /// A function of a class.
 pub(crate) fn enter_method(
     alloc: Global,
@@ -216,13 +241,10 @@ pub(crate) fn enter_method(
         method_entered table.old file class (view_fun fun.now) ≡ fault why) }
 {
     let name = fun.name.bytes();
-    if has_unknown(table, file, fun) {
-        return Err(wrong(file, fun.line, FaultKind::UnknownName));
-    }
+    let head = known_head(alloc, table, file, fun)?;
     if table.is_member_taken(class, name, true) {
         return Err(wrong(file, fun.line, FaultKind::Duplicate));
     }
-    let head = head_of(alloc, table, file, fun)?;
     enter_method_head(alloc, table, file, fun.line, class, name, head)
 }
 
@@ -302,12 +324,9 @@ pub(crate) fn enter_fun(
     ensures refused { IfErr result
         (λ why. IsFault why → fun_entered table.old file (view_fun fun.now) ≡ fault why) }
 {
-    if has_unknown(table, file, fun) {
-        return Err(wrong(file, fun.line, FaultKind::UnknownName));
-    }
+    let head = known_head(alloc, table, file, fun)?;
     if is_name_taken(table, file, &fun.name) {
         return Err(wrong(file, fun.line, FaultKind::Duplicate));
     }
-    let head = head_of(alloc, table, file, fun)?;
     enter_fun_head(alloc, table, file, fun.line, fun.name.bytes(), head)
 }

@@ -19,7 +19,7 @@ use type_table::{Head, Table, TypeFault, result_kind, value_kind};
 
 /// The type of a parameter, where it is one.
 #[tactic(auto, using(crate::proofs::ManyBrackets::too_many))]
-pub fn param_kind(table: &Table, file: u32, param: &Param) -> Option<Kind>
+fn param_kind(table: &Table, file: u32, param: &Param) -> Option<Kind>
     ensures { result ≡ kind_of_param table.now file param.now }
 {
     let named = table.named(file, &param.kind.base);

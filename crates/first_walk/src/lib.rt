@@ -16,5 +16,4 @@ mod statements;
 mod walk;
 
 pub use classes::next_class;
-pub use heads::param_kind;
 pub use walk::{enter_file, have_statement};

@@ -4,17 +4,17 @@ ghost use Rattle.ck_syntax.specs.Size.{items_size};
 ghost use Rattle.ck_syntax.specs.Tree.{class_item, no_items};
 ghost use Rattle.ck_syntax.specs.View.{view_class, view_item, items_of};
 ghost use Rattle.type_table.specs.Answer.{gives, fault, IsFault};
-ghost use Rattle.type_table.specs.Table.{class_named};
-ghost use Rattle.first_walk.specs.FirstWalk.{extended, with_parent, with_parents, check_line as line_checked, check_extended as extended_checked, check_parent as parent_checked, check_parents as parents_checked};
+ghost use Rattle.first_walk.specs.FirstWalk.{extended, check_built_in as built_in_checked, with_parent, with_parents, check_line as line_checked, check_extended as extended_checked, check_parent as parent_checked, check_parents as parents_checked};
 ghost use Rattle.first_walk.specs.Room.{HasNumber, AreNumbered};
 
 use crate::classes::next_class;
 use ck_base::Text;
 use ck_syntax::{ClassDef, Item};
+use ck_values::Elem;
 use fixed_point::Memory;
 use std::alloc::Global;
 use type_rules::is_below;
-use type_table::{FaultKind, Table, TypeFault, built_in, wrong};
+use type_table::{BuiltInName, FaultKind, Table, TypeFault, built_in, wrong};
 
 /// The class that is extended; `Object` where there is none.
 fn extended(table: &Table, file: u32, parent: &Option<Text>) -> u32
@@ -77,29 +77,39 @@ fn check_line(table: &Table, file: u32, line: u32, class: u32) -> Result<(), Typ
     }
 }
 
-/// Whether a class may extend this one.
+/// Whether a class may extend what has this name and is no class of a text. Of what is built in,
+/// classes alone may be extended.
+fn check_built_in(table: &Table, file: u32, line: u32, name: &Text) -> Result<(), TypeFault>
+    ensures fine { OnOk result
+        (built_in_checked table.now file line name.now ≡ gives table.now) }
+    ensures refused { IfErr result
+        (λ why. built_in_checked table.now file line name.now ≡ fault why) }
+{
+    match built_in(name.bytes()) {
+        Some(BuiltInName::Elem(Elem::Class(_))) => Ok(()),
+        Some(_) => Err(wrong(file, line, FaultKind::BadClass)),
+        None => Err(wrong(file, line, FaultKind::UnknownName)),
+    }
+}
+
+/// Whether a class may extend what its text names. Where that is a class of a text, it was found
+/// and set.
 fn check_extended(
     table: &Table,
     file: u32,
     line: u32,
     class: u32,
-    parent: &Text,
+    name: &Text,
 ) -> Result<(), TypeFault>
     ensures fine { OnOk result
-        (extended_checked table.now file line class parent.now
-        (class_named table.now file parent.now) ≡ gives table.now) }
+        (extended_checked table.now file line class name.now ≡ gives table.now) }
     ensures refused { IfErr result
-        (λ why. extended_checked table.now file line class parent.now
-        (class_named table.now file parent.now) ≡ fault why) }
+        (λ why. extended_checked table.now file line class name.now ≡ fault why) }
 {
-    if table.class(file, parent).is_some() {
-        return check_line(table, file, line, class);
+    if table.parent(class) == 0 {
+        return check_built_in(table, file, line, name);
     }
-    if built_in(parent.bytes()).is_some() {
-        Err(wrong(file, line, FaultKind::BadClass))
-    } else {
-        Err(wrong(file, line, FaultKind::UnknownName))
-    }
+    check_line(table, file, line, class)
 }
 
 /// Whether a class of the text, of this number, may have its parent.

@@ -4,8 +4,6 @@ use Rattle.std.proofs.Common.{if◌then◌else◌, List, [], ◌∷◌, ◌++◌
 use Rattle.std.proofs.Common.{is_some, slice_get, sym, ap, subst, ◌∙◌, append_assoc, append-nil}
 use Rattle.std.proofs.Common.{le_refl, le_trans, zero-le, length-append, arith}
 use Rattle.std.specs.Str.{bytes_eq}
-use Rattle.ck_values.specs.declared.kind.Elem.{Elem}
-use Rattle.ck_values.specs.declared.kind.Elem.TheVariants as elem
 use Rattle.ck_values.specs.declared.kind.Kind.{Kind}
 use Rattle.ck_values.specs.declared.kind.Kind.TheVariants.{Void, Null, One, Row, Grid}
 use Rattle.ck_syntax.specs.Tree as tree
@@ -21,11 +19,11 @@ use Rattle.type_table.specs.Names.{lookup}
 use Rattle.type_table.specs.Table.{Table, or_no_file, file_of, fun_of, or_no_head}
 use Rattle.type_table.specs.Types.{named_by, result_kind}
 use Rattle.first_walk.proofs.DeclaredFiles.{StmtDeclared, MembersDeclared, ItemDeclared, FileDeclared}
-use Rattle.type_table.proofs.Ranges.{Each, Within, ElemIn, ValueIn, many, ResultIn, HeadIn}
+use Rattle.type_table.proofs.Ranges.{Each, Within, ValueIn, many, ResultIn, HeadIn}
 use Rattle.first_walk.proofs.TableFacts.{owner, Entry, fun_entry, member_entries, item_entries}
 use Rattle.first_walk.proofs.TableFacts.{items_entries, file_entries, heads_of, IsFileOf, IsTable}
 use Rattle.program_laws.specs.declared.surroundings.Surroundings.{Surroundings}
-use Rattle.program_laws.specs.Programs.{fun_scope, with_params, fun_made, in_fun, in_no_fun}
+use Rattle.program_laws.specs.Programs.{fun_scope, count, with_params, fun_made, in_fun, in_no_fun}
 use Rattle.program_laws.specs.Programs.{fun_with, fun_typed, Walked, and_statement, and_fun}
 use Rattle.program_laws.specs.Programs.{and_member_typed, members_typed, class_funs, first_method}
 use Rattle.program_laws.specs.Programs.{class_typed, and_funs, and_item_typed, items_typed}
@@ -40,7 +38,9 @@ use Rattle.program_laws.proofs.FunctionScopes.{ok_both, Declares, params_declare
 use Rattle.program_laws.proofs.FunctionScopes.{fun_scope_declares, block_is, params_are}
 use Rattle.program_laws.proofs.FunctionScopes.{file_scope_is, class_scope_is, fun_scope_is}
 use Rattle.program_laws.proofs.Matching.{zip_length, Numbered, numbered_front, numbered_rest}
-use Rattle.program_laws.proofs.Matching.{HasHead, head_parts, MembersHaveHeads, ItemHasHeads}
+use Rattle.first_walk.proofs.KnownHeads.{head_parts}
+use Rattle.program_laws.proofs.Matching.{HasHead, fun_count, MembersHaveHeads}
+use Rattle.program_laws.proofs.Matching.{ItemHasHeads}
 use Rattle.program_laws.proofs.Matching.{FileHasHeads, Walks, file_scope, class_scope, next_is}
 use Rattle.program_laws.proofs.Matching.{members_walk, methods_numbered, items_walk, file_numbered}
 use Rattle.program_laws.proofs.Matching.{items_numbered}
@@ -178,11 +178,12 @@ module _ (p : Program) (t : Table) (owners : List (Option ℕ)) (has : Has p t)
   pub fun_is_fine : (class : Option ℕ) (n : ℕ) (f : tree.Fun) → IsClass t class → HasHead t file f
       → fun_of t n ≡ (fun_entry t file class f).0 → Ok (IsFineFun p) (fun_typed t file class n f)
   fun_is_fine class n (tree.fun l is_static result name ps body) within head same =
-      ok_then (λ u. Declares s head.0.params u × IsScope t u) (IsFineFun p) (with_params t s l ps)
+      ok_then (λ u. Declares s types u × IsScope t u) (IsFineFun p) (with_params types s l ps)
       (fun_with t n l body)
-      (ok_both (Declares s head.0.params) (IsScope t) (with_params t s l ps)
-      (params_declared t s l ps head.0.params kinds_are)
-      (params_are t s l ps head.0.params kinds_are values scope)) (λ u right.
+      (ok_both (Declares s types) (IsScope t) (with_params types s l ps)
+      (params_declared types s l ps counted)
+      (params_are t types s l ps (omega (arith, counted)) (head_in t owners is n).0 scope))
+      (λ u right.
       ok_then (AreStated p t (in_fun (fun_of t n).result) (with_block u)) (IsFineFun p)
       (statements t (in_fun (fun_of t n).result) (with_block u) body)
       (λ all. gives (fun_made (length u.locals) (fun_of t n).result l all))
@@ -199,27 +200,26 @@ module _ (p : Program) (t : Table) (owners : List (Option ℕ)) (has : Has p t)
       begins : Declares (new_scope file class (Some n)) (this_of (owner class is_static)) s
       begins = fun_scope_declares file class n is_static
 
-      parts : (param_kinds t file ps ≡ Some head.0.params) × (head.0.is_static ≡ is_static)
-      parts =
-          head_parts is_static (param_kinds t file ps)
-          (result_kind (named_by t file result.base) result.brackets) head.0 head.1
+      static_is : head.0.is_static ≡ is_static
+      static_is =
+          (head_parts is_static (param_kinds t file ps)
+          (result_kind (named_by t file result.base) result.brackets) head.0 head.1).2
 
       head_is : fun_of t n ≡ head.0
       head_is = same ∙ ap or_no_head head.1
 
-      kinds_are : param_kinds t s.file ps ≡ Some head.0.params
-      kinds_are = ap (λ f. param_kinds t f ps) begins.file ∙ parts.0
+      types : List Kind
+      types = (fun_of t n).params
 
-      values : Each (ValueIn (many t)) head.0.params
-      values =
-          subst (λ (h : Head). Each (ValueIn (many t)) h.params) head_is (head_in t owners is n).0
+      counted : count ps ≡ length types
+      counted = fun_count t file n (tree.fun l is_static result name ps body) head head_is
 
       scope : IsScope t s
       scope =
           fun_scope_is t file class n is_static within
-          (ap (λ (h : Head). h.is_static) head_is ∙ parts.1)
+          (ap (λ (h : Head). h.is_static) head_is ∙ static_is)
 
-      no_globals : (u : Scope) → Declares s head.0.params u
+      no_globals : (u : Scope) → Declares s types u
           → declares_globals (with_block u) ≡ false
       no_globals u declares =
           ap (λ f. not (is_some f) && is_empty (u.blocks ++ [] ∷ [])) (declares.fun ∙ begins.fun)

@@ -29,7 +29,7 @@ use Rattle.check_scope.specs.Denotations.{Typed}
 use Rattle.ck_typed.specs.Standing.{given}
 use Rattle.check_scope.specs.Scope.{Scope, front, is_empty, place, with_block, without_block}
 use Rattle.check_scope.specs.Scope.{declares_globals}
-use Rattle.program_laws.specs.Statements.{Stated, AllStated, and_stated, in_order, block_of, nothing}
+use Rattle.program_laws.specs.Statements.{Stated, AllStated, and_stated, in_order, block_of}
 use Rattle.program_laws.specs.Statements.{left, closed, int_at, condition, simple, declarations, is_void}
 use Rattle.program_laws.specs.Statements.{exprs, kinds, printed, in_loop_only, returned, bare_return}
 use Rattle.program_laws.specs.Statements.{return_meaning, Tested, tested, for_test, for_step}

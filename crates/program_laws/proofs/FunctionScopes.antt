@@ -1,22 +1,26 @@
 -- The scopes that functions begin with: `this` where they take an object, and their parameters.
-use Rattle.std.proofs.Common.{◌≡◌, ℕ, zero, suc, ◌<◌, Bool, true, false, not, if◌then◌else◌, List}
-use Rattle.std.proofs.Common.{[], ◌∷◌, ◌++◌, length, take, Option, Some, None, slice_get, refl, sym}
-use Rattle.std.proofs.Common.{ap, subst, ◌∙◌, append_assoc, append-nil, lt-suc_self, arith}
-use Rattle.std.proofs.lemmas.List.{take_at, length_push}
+use Rattle.std.proofs.Common.{◌≡◌, ℕ, zero, suc, ◌+◌, ◌<◌, ◌≤◌, Bool, true, false, not, List}
+use Rattle.std.proofs.Common.{if◌then◌else◌, [], ◌∷◌, ◌++◌, length, take, get_or, Option, Some}
+use Rattle.std.proofs.Common.{None, slice_get, refl, sym, ap, subst, ◌∙◌, append_assoc, append-nil}
+use Rattle.std.proofs.Common.{lt-suc_self, arith}
+use Rattle.std.proofs.lemmas.List.{take_at, take_all, take_more, length_push}
+use Rattle.std.proofs.lemmas.Option.{slice_get-get_or}
 use Rattle.ck_values.specs.declared.kind.Elem.TheVariants as elem
 use Rattle.ck_values.specs.declared.kind.Kind.{Kind}
-use Rattle.ck_values.specs.declared.kind.Kind.TheVariants.{One}
+use Rattle.ck_values.specs.declared.kind.Kind.TheVariants.{Void, One}
 use Rattle.ck_syntax.specs.Tree as tree
 use Rattle.ck_syntax.specs.Tree.{Params, no_params, and_param}
 use Rattle.type_table.specs.Answer.{Answer, gives, refused, wrong}
 use Rattle.type_table.specs.declared.fault.FaultKind.TheVariants.{Duplicate}
-use Rattle.first_walk.specs.FirstWalk.{and_kind, param_kind, param_kinds}
+use Rattle.first_walk.specs.FirstWalk.{param_kind, param_kinds}
+use Rattle.first_walk.proofs.KnownHeads.{kinds_of}
 use Rattle.type_table.specs.Table.{Table, fun_of}
+use Rattle.type_table.proofs.ListFacts.{each_at}
 use Rattle.type_table.proofs.Ranges.{Each, Within, ValueIn, many}
 use Rattle.first_walk.proofs.TableFacts.{owner}
 use Rattle.check_scope.specs.Scope.{Scope, new_scope, or_void, is_declared, with_block, with_last}
 use Rattle.check_scope.specs.Scope.{own_with, with_local, this_local}
-use Rattle.program_laws.specs.Programs.{with_this, fun_scope, with_param, with_params}
+use Rattle.program_laws.specs.Programs.{with_this, fun_scope, with_param, count, with_params}
 use Rattle.expr_laws.proofs.Oks.{ok_then, ok_if}
 use Rattle.program_laws.proofs.Parallel.{this_of}
 use Rattle.expr_laws.proofs.Premises.{Ok, IsNumber, IsThis, IsClass, IsScope, Grows}
@@ -46,14 +50,6 @@ front_of front all within =
 
 -- parameters --------------------------------------------------------------------------------------
 
--- a list of kinds with one more
-pub kinds_of : (found : Option (List Kind)) (k : Option Kind) (ks : List Kind)
-    → and_kind found k ≡ Some ks
-    → (js : List Kind) × (j : Kind) × (found ≡ Some js) × (k ≡ Some j) × (ks ≡ js ++ j ∷ [])
-kinds_of (Some js) (Some j) ks is = (js, j, refl, refl, cc)
-kinds_of (Some js) None ks is = absurd (cc)
-kinds_of None k ks is = absurd (cc)
-
 -- these are declared more, in the same place
 pub record Declares (s : Scope) (ks : List Kind) (u : Scope) : Type 0 where
   pub file : u.file ≡ s.file
@@ -75,26 +71,43 @@ declares_more s u n js ks j k before same are =
           ap (λ ls. ls ++ k ∷ []) before.locals ∙ last;
     }
 
--- the parameters are declared with the kinds of the head
-pub params_declared : (t : Table) (s : Scope) (l : ℕ) (ps : Params) (ks : List Kind)
-    → param_kinds t s.file ps ≡ Some ks → Ok (Declares s ks) (with_params t s l ps)
-params_declared t s l no_params ks is = let none : ks ≡ [] = cc in
-    record {
-      file = refl;
-      class = refl;
-      fun = refl;
-      locals =
-          sym (ap (λ ls. s.locals ++ ls) none ∙ append-nil s.locals);
-    }
-params_declared t s l (and_param ps p) ks is =
-    let k = kinds_of (param_kinds t s.file ps) (param_kind t s.file p) ks is in
-    ok_then (Declares s k.0) (Declares s ks) (with_params t s l ps)
-    (λ u. with_param u l p.name (or_void (param_kind t u.file p)))
-    (params_declared t s l ps k.0 k.2) (λ u before.
-    ok_if (Declares s ks) (is_declared u p.name) (wrong u.file l Duplicate)
-    (gives (with_local u p.name (or_void (param_kind t u.file p)))) (λ _. tt) (λ _.
-    declares_more s u p.name k.0 ks k.1 (or_void (param_kind t u.file p)) before
-    (ap (λ f. or_void (param_kind t f p)) before.file ∙ ap or_void k.3) k.4))
+-- a function has as many types of parameters as its text
+pub count_is : (t : Table) (file : ℕ) (ps : Params) (ks : List Kind)
+    → param_kinds t file ps ≡ Some ks → count ps ≡ length ks
+count_is t file no_params ks is = let none : ks ≡ [] = cc in sym (ap length none)
+count_is t file (and_param ps p) ks is =
+    let k = kinds_of (param_kinds t file ps) (param_kind t file p) ks is in
+    omega (arith, count_is t file ps k.0 k.2, ap length k.4, length_push k.0 k.1)
+
+-- the type behind so many
+pub next_type : (types : List Kind) (n : ℕ) → n < length types
+    → take (n + 1) types ≡ take n types ++ or_void (slice_get types n) ∷ []
+next_type types n lt =
+    take_more types n Void lt
+    ∙ ap (λ k. take n types ++ k ∷ []) (sym (ap or_void (slice_get-get_or types n Void lt)))
+
+-- the first so many are declared
+pub first_declared : (types : List Kind) (s : Scope) (l : ℕ) (ps : Params)
+    → count ps ≤ length types → Ok (Declares s (take (count ps) types)) (with_params types s l ps)
+first_declared types s l no_params few =
+    record { file = refl; class = refl; fun = refl; locals = sym (append-nil s.locals) }
+first_declared types s l (and_param ps p) few =
+    let k : Kind = or_void (slice_get types (count ps)) in
+    ok_then (Declares s (take (count ps) types)) (Declares s (take (count ps + 1) types))
+    (with_params types s l ps) (λ u. with_param u l p.name (or_void (slice_get types (count ps))))
+    (first_declared types s l ps (omega (arith, few))) (λ u before.
+    ok_if (Declares s (take (count ps + 1) types)) (is_declared u p.name) (wrong u.file l Duplicate)
+    (gives (with_local u p.name (or_void (slice_get types (count ps))))) (λ _. tt) (λ _.
+    declares_more s u p.name (take (count ps) types) (take (count ps + 1) types) k k before refl
+    (next_type types (count ps) (omega (arith, few)))))
+
+-- the parameters are declared with the types of the head
+pub params_declared : (types : List Kind) (s : Scope) (l : ℕ) (ps : Params)
+    → count ps ≡ length types → Ok (Declares s types) (with_params types s l ps)
+params_declared types s l ps is =
+    subst (λ ks. Ok (Declares s ks) (with_params types s l ps))
+    (take_all (count ps) types (omega (arith, is)))
+    (first_declared types s l ps (omega (arith, is)))
 
 -- the object is declared first where there is one
 pub fun_scope_declares : (file : ℕ) (class : Option ℕ) (n : ℕ) (is_static : Bool)
@@ -199,24 +212,20 @@ module _ (t : Table) where
       }
 
   -- parameters are values
-  pub params_are : (s : Scope) (l : ℕ) (ps : Params) (ks : List Kind)
-      → param_kinds t s.file ps ≡ Some ks → Each (ValueIn (many t)) ks → IsScope t s
-      → Ok (IsScope t) (with_params t s l ps)
-  params_are s l no_params ks is values scope = scope
-  params_are s l (and_param ps p) ks is values scope =
-      let k = kinds_of (param_kinds t s.file ps) (param_kind t s.file p) ks is in
-      let parts =
-      each_apart (ValueIn (many t)) k.0 (k.1 ∷ [])
-      (subst (Each (ValueIn (many t))) k.4 values) in
-      ok_then (λ u. Declares s k.0 u × IsScope t u) (IsScope t) (with_params t s l ps)
-      (λ u. with_param u l p.name (or_void (param_kind t u.file p)))
-      (ok_both (Declares s k.0) (IsScope t) (with_params t s l ps)
-      (params_declared t s l ps k.0 k.2) (params_are s l ps k.0 k.2 parts.0 scope)) (λ u before.
+  pub params_are : (types : List Kind) (s : Scope) (l : ℕ) (ps : Params)
+      → count ps ≤ length types → Each (ValueIn (many t)) types → IsScope t s
+      → Ok (IsScope t) (with_params types s l ps)
+  params_are types s l no_params few values scope = scope
+  params_are types s l (and_param ps p) few values scope =
+      let there = slice_get-get_or types (count ps) Void (omega (arith, few)) in
+      ok_then (IsScope t) (IsScope t) (with_params types s l ps)
+      (λ u. with_param u l p.name (or_void (slice_get types (count ps))))
+      (params_are types s l ps (omega (arith, few)) values scope) (λ u before.
       ok_if (IsScope t) (is_declared u p.name) (wrong u.file l Duplicate)
-      (gives (with_local u p.name (or_void (param_kind t u.file p)))) (λ _. tt) (λ _.
-      local_is t u p.name (or_void (param_kind t u.file p)) before.1
-      (subst (ValueIn (many t))
-      (sym (ap (λ f. or_void (param_kind t f p)) before.0.file ∙ ap or_void k.3)) parts.1.0)))
+      (gives (with_local u p.name (or_void (slice_get types (count ps))))) (λ _. tt) (λ _.
+      local_is t u p.name (or_void (slice_get types (count ps))) before
+      (subst (ValueIn (many t)) (sym (ap or_void there))
+      (each_at (ValueIn (many t)) types (count ps) (get_or types (count ps) Void) values there))))
 
   -- the scopes of a file's statements, of a class's and of functions
   pub file_scope_is : (file : ℕ) → IsScope t (new_scope file None None)

@@ -4,14 +4,14 @@ use Rattle.std.proofs.Common.{◌≡◌, ℕ, suc, ◌+◌, Bool, true, false, L
 use Rattle.std.proofs.Common.{Option, Some, None, slice_get, refl, sym, ap, ◌∙◌, append_assoc}
 use Rattle.std.proofs.Common.{append-nil, length-append}
 use Rattle.std.proofs.lemmas.List.{map-append, length-map}
-use Rattle.ck_values.specs.declared.kind.Kind.{Kind}
 use Rattle.ck_syntax.specs.Tree as tree
 use Rattle.ck_syntax.specs.Tree.{Params, no_params, and_param, Stmt, Stmts, Members, no_members}
 use Rattle.ck_syntax.specs.Tree.{and_member, fun_member, stmt_member, no_items, and_item}
 use Rattle.ck_syntax.specs.Tree.{class_item, fun_item, stmt_item}
 use Rattle.ck_typed.specs.Tree as typed
 use Rattle.type_table.specs.Answer.{gives, and_then}
-use Rattle.first_walk.specs.FirstWalk.{own_class, param_kinds, head_with, head_of, has_statement}
+use Rattle.first_walk.specs.FirstWalk.{own_class, param_kinds, head_of, has_statement}
+use Rattle.first_walk.proofs.KnownHeads.{head_parts}
 use Rattle.type_table.specs.declared.class.Head.{Head}
 use Rattle.type_table.specs.Table.{Table, file_of, fun_of, or_no_head, plain_head}
 use Rattle.type_table.specs.Types.{named_by, result_kind}
@@ -20,14 +20,14 @@ use Rattle.first_walk.proofs.TableFacts.{item_entries, items_entries, file_entri
 use Rattle.program_laws.specs.declared.surroundings.Surroundings.{Surroundings}
 use Rattle.check_scope.specs.Scope.{Scope, new_scope, with_block}
 use Rattle.program_laws.specs.Statements.{Stated, AllStated, and_stated, statement, statements}
-use Rattle.program_laws.specs.Programs.{with_this, fun_scope, with_params, fun_made, in_fun}
+use Rattle.program_laws.specs.Programs.{with_this, fun_scope, count, with_params, fun_made, in_fun}
 use Rattle.program_laws.specs.Programs.{in_no_fun, fun_with, fun_typed, Walked, and_statement}
 use Rattle.program_laws.specs.Programs.{and_fun, and_member_typed, members_typed, class_funs}
 use Rattle.program_laws.specs.Programs.{first_method, class_typed, and_funs, and_item_typed}
 use Rattle.program_laws.specs.Programs.{items_typed, file_funs}
 use Rattle.ck_typed.specs.Standing.{given}
 use Rattle.program_laws.proofs.FunctionScopes.{grows_same, grows_trans, front_of, Declares}
-use Rattle.program_laws.proofs.FunctionScopes.{params_declared, fun_scope_declares}
+use Rattle.program_laws.proofs.FunctionScopes.{count_is, params_declared, fun_scope_declares}
 use Rattle.expr_laws.proofs.Oks.{ok_then, ok_map}
 use Rattle.program_laws.proofs.Parallel.{Zip, this_of, Matches}
 use Rattle.expr_laws.proofs.Premises.{Ok, Grows}
@@ -108,13 +108,16 @@ module _ (t : Table) where
 abbrev pub HasHead : Table → (file : ℕ) → tree.Fun → Type 0
 HasHead t file f = (h : Head) × (head_of t file f ≡ Some h)
 
-pub head_parts : (s : Bool) (ks : Option (List Kind)) (k : Option Kind) (h : Head)
-    → head_with s ks k ≡ Some h → (ks ≡ Some h.params) × (h.is_static ≡ s)
-head_parts s (Some ks) (Some k) h is =
-    let same : h ≡ record { params = ks; result = k; is_static = s } = cc in
-    (ap (λ (g : Head). Some g.params) (sym same), ap (λ (g : Head). g.is_static) same)
-head_parts s (Some ks) None h is = absurd (cc)
-head_parts s None k h is = absurd (cc)
+-- a function has as many types of parameters as its text
+abbrev pub params_in : tree.Fun → Params
+params_in (tree.fun l is_static result name ps body) = ps
+
+pub fun_count : (t : Table) (file n : ℕ) (f : tree.Fun) (has : HasHead t file f)
+    → fun_of t n ≡ has.0 → count (params_in f) ≡ length (fun_of t n).params
+fun_count t file n (tree.fun l is_static result name ps body) has is =
+    count_is t file ps has.0.params (head_parts is_static (param_kinds t file ps)
+    (result_kind (named_by t file result.base) result.brackets) has.0 has.1).0
+    ∙ sym (ap (λ (h : Head). length h.params) is)
 
 -- each function of a class or of a file has its types
 abbrev pub MembersHaveHeads : Table → (file : ℕ) → Members → Type 0
@@ -191,16 +194,16 @@ module _ (t : Table)
       → fun_of t n ≡ (fun_entry t file class f).0
       → Ok (λ g. Matches g (fun_entry t file class f)) (fun_typed t file class n f)
   fun_matches class n (tree.fun l is_static result name ps body) has is =
-      ok_then (Declares s has.0.params) Good (with_params t s l ps) (fun_with t n l body)
-      (params_declared t s l ps has.0.params param_kinds_are) (λ u declares.
+      ok_then (Declares s (fun_of t n).params) Good (with_params (fun_of t n).params s l ps)
+      (fun_with t n l body) (params_declared (fun_of t n).params s l ps (fun_count t file n
+      (tree.fun l is_static result name ps body) has (is ∙ ap or_no_head has.1))) (λ u declares.
       ok_then (λ (y : AllStated). Grows (with_block u) y.scope) Good
       (statements t (in_fun (fun_of t n).result) (with_block u) body)
       (λ all. gives (fun_made (length u.locals) (fun_of t n).result l all))
       (grow_all (in_fun (fun_of t n).result) (with_block u) body) (λ all grows. (
         front_of u.locals all.scope.locals grows.locals ∙ declares.locals
-            ∙ ap (λ ks. ks ++ has.0.params) begins.locals
-            ∙ ap (λ (h : Option Head). this_of (owner class is_static) ++ (or_no_head h).params)
-            (sym has.1),
+            ∙ ap (λ ks. ks ++ (fun_of t n).params) begins.locals
+            ∙ ap (λ (h : Head). this_of (owner class is_static) ++ h.params) is,
         ap (λ (h : Head). given h.result) is,
       )))
     where
@@ -209,12 +212,6 @@ module _ (t : Table)
 
       begins : Declares (new_scope file class (Some n)) (this_of (owner class is_static)) s
       begins = fun_scope_declares file class n is_static
-
-      param_kinds_are : param_kinds t s.file ps ≡ Some has.0.params
-      param_kinds_are =
-          ap (λ f. param_kinds t f ps) begins.file
-          ∙ (head_parts is_static (param_kinds t file ps)
-          (result_kind (named_by t file result.base) result.brackets) has.0 has.1).0
 
       Good : typed.Fun → Type 0
       Good g = Matches g (fun_entry t file class (tree.fun l is_static result name ps body))

@@ -1,6 +1,6 @@
 -- A program lies in its files, and what is wrong with it stands in one of them.
 use Rattle.std.proofs.Common.{◌≡◌, ℕ, ◌+◌, ◌<◌, Bool, true, false, List, [], ◌∷◌, length}
-use Rattle.std.proofs.Common.{Option, Some, None, refl, sym, subst, arith}
+use Rattle.std.proofs.Common.{Option, Some, None, slice_get, refl, sym, subst, arith}
 use Rattle.ck_values.specs.declared.kind.Kind.{Kind}
 use Rattle.ck_values.specs.declared.kind.Kind.TheVariants.{Void}
 use Rattle.ck_syntax.specs.Tree as tree
@@ -8,16 +8,16 @@ use Rattle.ck_syntax.specs.Tree.{Name, Params, no_params, and_param, Members, no
 use Rattle.ck_syntax.specs.Tree.{and_member, fun_member, stmt_member, no_items, and_item}
 use Rattle.ck_syntax.specs.Tree.{class_item, fun_item, stmt_item}
 use Rattle.ck_typed.specs.Tree as typed
-use Rattle.ck_typed.specs.WellFormed.{StmtsLie, FunLies}
+use Rattle.ck_typed.specs.WellFormed.{FunLies}
 use Rattle.type_table.specs.Answer.{Answer, Fault, gives, refused, and_then}
-use Rattle.first_walk.specs.FirstWalk.{entered, own_class, param_kind, has_statement}
+use Rattle.first_walk.specs.FirstWalk.{entered, own_class, has_statement}
 use Rattle.type_table.specs.Table.{Table, fun_of}
 use Rattle.type_table.proofs.FaultFiles.{Placed, placed_then, placed_if}
 use Rattle.type_table.proofs.Ranges.{Each}
 use Rattle.first_walk.proofs.WalkFaults.{entered_in}
 use Rattle.check_scope.specs.Scope.{Scope, or_void, is_declared, with_block}
-use Rattle.program_laws.specs.Statements.{AllStated, in_order, statement, statements}
-use Rattle.program_laws.specs.Programs.{fun_scope, with_param, with_params, fun_made, in_fun}
+use Rattle.program_laws.specs.Statements.{AllStated, statement, statements}
+use Rattle.program_laws.specs.Programs.{fun_scope, with_param, count, with_params, fun_made, in_fun}
 use Rattle.program_laws.specs.Programs.{in_no_fun, fun_with, fun_typed, Walked, and_statement, and_fun}
 use Rattle.program_laws.specs.Programs.{and_member_typed, members_typed, class_funs, first_method}
 use Rattle.program_laws.specs.Programs.{class_typed, next_fun, and_item_typed, items_typed}
@@ -53,12 +53,13 @@ module _ (files f : ℕ) (known : f < files) (t : Table) where
       → Placed (ScopeIn f) f (with_param s l n k)
   param_in s here l n k = placed_if (ScopeIn f) f (is_declared s n) _ _ here here
 
-  params_in : (s : Scope) → s.file ≡ f → (l : ℕ) (ps : Params)
-      → Placed (ScopeIn f) f (with_params t s l ps)
-  params_in s here l no_params = here
-  params_in s here l (and_param ps p) =
-      placed_then (ScopeIn f) (ScopeIn f) f (with_params t s l ps) _ (params_in s here l ps)
-      (λ u so. param_in u so l p.name (or_void (param_kind t u.file p)))
+  params_in : (types : List Kind) (s : Scope) → s.file ≡ f → (l : ℕ) (ps : Params)
+      → Placed (ScopeIn f) f (with_params types s l ps)
+  params_in types s here l no_params = here
+  params_in types s here l (and_param ps p) =
+      placed_then (ScopeIn f) (ScopeIn f) f (with_params types s l ps) _
+      (params_in types s here l ps)
+      (λ u so. param_in u so l p.name (or_void (slice_get types (count ps))))
 
   made_lies : (params : ℕ) (result : Kind) (l : ℕ) (all : AllStated) → AllStatedIn files f all
       → FunLies files (fun_made params result l all)
@@ -76,8 +77,9 @@ module _ (files f : ℕ) (known : f < files) (t : Table) where
       → Placed (FunLies files) f (fun_typed t f class g x)
   fun_in class g (tree.fun l is_static result n ps body) =
       placed_then (ScopeIn f) (FunLies files) f
-      (with_params t (fun_scope f class g is_static) l ps) _
-      (params_in (fun_scope f class g is_static) (scope_in class g is_static) l ps)
+      (with_params (fun_of t g).params (fun_scope f class g is_static) l ps) _
+      (params_in (fun_of t g).params (fun_scope f class g is_static)
+      (scope_in class g is_static) l ps)
       (λ s so. fun_with_in g l body s so)
 
   -- classes and files -----------------------------------------------------------------------------

@@ -1,7 +1,7 @@
 -- Whole programs: the second walk of each file types its statements, the bodies of its functions
 -- and the members of its classes in text order.
 use Rattle.std.specs.Prelude.{ℕ, ◌+◌, Bool, true, false, List, [], ◌∷◌, ◌++◌, length, codes, Option}
-use Rattle.std.specs.Prelude.{Some, None, if◌then◌else◌}
+use Rattle.std.specs.Prelude.{Some, None, slice_get, if◌then◌else◌}
 use Rattle.ck_values.specs.declared.kind.Elem.TheVariants as elem
 use Rattle.ck_values.specs.declared.kind.Kind.{Kind}
 use Rattle.ck_values.specs.declared.kind.Kind.TheVariants.{Void, One}
@@ -14,7 +14,7 @@ use Rattle.ck_typed.specs.Tree as typed
 use Rattle.type_table.specs.Answer.{Answer, gives, and_then, wrong}
 use Rattle.type_table.specs.declared.fault.FaultKind.TheVariants.{Duplicate}
 use Rattle.type_table.specs.Table.{Table, file_of, fun_of, new_table}
-use Rattle.first_walk.specs.FirstWalk.{entered, own_class, param_kind, has_statement}
+use Rattle.first_walk.specs.FirstWalk.{entered, own_class, has_statement}
 use Rattle.type_table.specs.Finished.{finished_classes}
 use Rattle.check_scope.specs.Scope.{Scope, new_scope, or_void, place, is_declared, with_local}
 use Rattle.check_scope.specs.Scope.{with_block}
@@ -33,15 +33,20 @@ abbrev pub fun_scope : (file : ℕ) → (class : Option ℕ) → (fun : ℕ) →
 fun_scope file (Some c) f false = with_this (new_scope file (Some c) (Some f)) c
 fun_scope file class f is_static = new_scope file class (Some f)
 
--- parameters are declared in their order; two of one name are a fault of the function
+-- parameters are declared in their order, with the types of their function's head; two of one name
+-- are a fault of the function
 abbrev pub with_param : Scope → (line : ℕ) → Name → Kind → Answer Scope
 with_param s l n k = if is_declared s n then wrong s.file l Duplicate else gives (with_local s n k)
 
-abbrev pub with_params : Table → Scope → (line : ℕ) → Params → Answer Scope
-with_params t s l no_params = gives s
-with_params t s l (and_param ps p) =
-    and_then (with_params t s l ps) (λ u.
-    with_param u l p.name (or_void (param_kind t u.file p)))
+abbrev pub count : Params → ℕ
+count no_params = 0
+count (and_param ps p) = count ps + 1
+
+abbrev pub with_params : (types : List Kind) → Scope → (line : ℕ) → Params → Answer Scope
+with_params types s l no_params = gives s
+with_params types s l (and_param ps p) =
+    and_then (with_params types s l ps) (λ u.
+    with_param u l p.name (or_void (slice_get types (count ps))))
 
 -- a function of these statements, of whose locals so many are parameters
 abbrev pub fun_made : (params : ℕ) → (result : Kind) → (line : ℕ) → AllStated → typed.Fun
@@ -71,7 +76,7 @@ fun_with t f l body s =
 abbrev pub fun_typed : Table → (file : ℕ) → (class : Option ℕ) → (number : ℕ) → tree.Fun
     → Answer typed.Fun
 fun_typed t file class f (tree.fun l is_static result n ps body) =
-    and_then (with_params t (fun_scope file class f is_static) l ps) (λ s.
+    and_then (with_params (fun_of t f).params (fun_scope file class f is_static) l ps) (λ s.
     fun_with t f l body s)
 
 -- classes and files -----------------------------------------------------------------------------

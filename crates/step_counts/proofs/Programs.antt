@@ -38,7 +38,7 @@ module _ (most : ℕ) (t : Table) (file : ℕ) where
   fun_costs : (class : Option ℕ) (f : ℕ) (x : tree.Fun) → fun_size x ≤ most
       → Ok (FunWithin most) (fun_typed t file class f x)
   fun_costs class f (tree.fun l is_static result n ps body) few =
-      then_any (FunWithin most) (with_params t (fun_scope file class f is_static) l ps) _ (λ s.
+      then_any (FunWithin most) (with_params (fun_of t f).params (fun_scope file class f is_static) l ps) _ (λ s.
       ok_then (AllStatedWithin (stmts_size body)) (FunWithin most)
       (statements t (in_fun (fun_of t f).result) (with_block s) body) _
       (statements_cost t (in_fun (fun_of t f).result) (with_block s) body) (λ all less. omega arith))
