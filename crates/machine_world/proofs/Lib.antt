@@ -13,6 +13,8 @@ pub mod Replaced
 pub mod Sends
 pub mod Updates
 pub mod Indexed
+pub mod Stands
+pub mod Follows
 pub mod Stores
 pub mod Picked
 pub mod Places

@@ -1,6 +1,6 @@
-pub mod Tries
 pub mod Shown
 pub mod Worlds
+pub mod Tries
 pub mod Acts
 pub mod Steps
 pub mod Units

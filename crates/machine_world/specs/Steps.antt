@@ -7,7 +7,7 @@ use Rattle.ck_store.specs.Steps.{and_then}
 use Rattle.ck_store.specs.Operators.{with_both, binary}
 use Rattle.ck_store.specs.Natives.{Given, operand_count, native}
 use Rattle.ck_typed.specs.declared.native.Native.{Native}
-use Rattle.ck_store.specs.Store.{State, At, On, End, Try, Gives, Fails, Misfit}
+use Rattle.ck_store.specs.Store.{State, Store, At, On, End, Try, Gives, Fails, Misfit}
 use Rattle.ck_code.specs.declared.instr.Instr.{Instr}
 use Rattle.ck_code.specs.declared.instr.Instr.TheVariants.{UnitInt, UnitFix, Ugen}
 use Rattle.ck_code.specs.declared.code.Step.{Step}
@@ -17,7 +17,8 @@ use Rattle.ck_code.specs.Machine.{Frame, Effect, Next, Stops, Over, Breaks, Bad,
 use Rattle.shred_state.specs.Frames.{Standing}
 use Rattle.machine_world.specs.Acts.{all_acts_meant}
 use Rattle.machine_world.specs.Shown.{Shown, shown, locals_of, frames_of}
-use Rattle.machine_world.specs.Worlds.{Parts, store_of}
+use Rattle.machine_world.specs.Tries.{HasStore}
+use Rattle.machine_world.specs.Worlds.{Parts}
 use Rattle.machine_world.specs.declared.acts.Act.{Act}
 use Rattle.machine_world.specs.declared.course.Stop.{Stop}
 use Rattle.machine_world.specs.declared.course.Stop.TheVariants.{At as StopsAt, On as StopsOn, Ended, Trapped}
@@ -26,10 +27,10 @@ use Rattle.machine_world.specs.declared.course.Course.TheVariants.{Ahead, Apart,
 use Rattle.machine_world.specs.declared.course.Then.{Then}
 use Rattle.machine_world.specs.declared.course.Then.TheVariants.{GoesOn, Moves, Stopped}
 
--- what a slice works on
-abbrev pub state_of : Standing → Parts → List Act → State
-state_of shred world acts =
-    record { store = store_of world; acts = all_acts_meant acts; turns = (shown shred).turns }
+-- what a slice works on, over a store
+abbrev pub state_of : Standing → Store → List Act → State
+state_of shred store acts =
+    record { store = store; acts = all_acts_meant acts; turns = (shown shred).turns }
 
 -- what an instruction at this place of the source does to the shred
 abbrev pub effect_in : CodeParts → Instr → Place → Shown → State → Effect
@@ -37,18 +38,18 @@ effect_in code instr place s state =
     let top = s.top in
     effect code s.number instr place top.fun top.place top.locals top.operands s.below state
 
-abbrev pub effect_of : CodeParts → Instr → Place → Standing → Parts → List Act → Effect
-effect_of code instr place shred world acts =
-    effect_in code instr place (shown shred) (state_of shred world acts)
+abbrev pub effect_of : CodeParts → Instr → Place → Standing → Store → List Act → Effect
+effect_of code instr place shred store acts =
+    effect_in code instr place (shown shred) (state_of shred store acts)
 
-abbrev pub effect_on : CodeParts → Step → Standing → Parts → List Act → Effect
-effect_on code step shred world acts = effect_of code step.instr step.place shred world acts
+abbrev pub effect_on : CodeParts → Step → Standing → Store → List Act → Effect
+effect_on code step shred store acts = effect_of code step.instr step.place shred store acts
 
 -- what is done to the shred in place of an instruction
-abbrev pub action_on : Action → Standing → Parts → List Act → Effect
-action_on action shred world acts =
+abbrev pub action_on : Action → Standing → Store → List Act → Effect
+action_on action shred store acts =
     let s = shown shred in
-    action s.top.fun s.top.place s.top.locals s.top.operands s.below (state_of shred world acts)
+    action s.top.fun s.top.place s.top.locals s.top.operands s.below (state_of shred store acts)
 
 -- it finds operands that it can take
 abbrev pub IsGood : Effect → Type 0
@@ -67,25 +68,30 @@ IsRunnable _ = Unit {0}
 
 -- the slice stops at this place of the source as the effect says, and these are the frames, the
 -- store, the acts and the turns that it leaves
-abbrev pub StopsAs : Stop → Effect → Place → Standing → Parts → List Act → Type 0
-StopsAs (StopsAt time) e place shred world acts =
-    e ≡ Stops (At time) place (frames_of (shown shred)) (state_of shred world acts)
-StopsAs (StopsOn event) e place shred world acts =
-    e ≡ Stops (On event.serial) place (frames_of (shown shred)) (state_of shred world acts)
-StopsAs Ended e place shred world acts =
-    ((v : Datum) × (e ≡ Over v (state_of shred world acts)))
-    ⊎ ((at : Place) × (frames : List Frame) × (e ≡ Stops End at frames (state_of shred world acts)))
-StopsAs (Trapped trap at) e place shred world acts =
-    e ≡ Breaks trap at (state_of shred world acts)
+abbrev pub StopsAs : Stop → Effect → Place → Standing → Store → List Act → Type 0
+StopsAs (StopsAt time) e place shred store acts =
+    e ≡ Stops (At time) place (frames_of (shown shred)) (state_of shred store acts)
+StopsAs (StopsOn event) e place shred store acts =
+    e ≡ Stops (On event.serial) place (frames_of (shown shred)) (state_of shred store acts)
+StopsAs Ended e place shred store acts =
+    ((v : Datum) × (e ≡ Over v (state_of shred store acts)))
+    ⊎ ((at : Place) × (frames : List Frame) × (e ≡ Stops End at frames (state_of shred store acts)))
+StopsAs (Trapped trap at) e place shred store acts =
+    e ≡ Breaks trap at (state_of shred store acts)
 
 -- what comes after the instruction at this place of the source is as the effect says, and so is
 -- what it leaves
-abbrev pub Matches : Then → Effect → Place → Standing → Parts → List Act → Type 0
-Matches GoesOn e place shred world acts =
-    e ≡ Next (frames_of (shown shred)) (state_of shred world acts)
-Matches Moves e place shred world acts =
-    e ≡ Next (frames_of (shown shred)) (state_of shred world acts)
-Matches (Stopped stop) e place shred world acts = StopsAs stop e place shred world acts
+abbrev pub Matches : Then → Effect → Place → Standing → Store → List Act → Type 0
+Matches GoesOn e place shred store acts =
+    e ≡ Next (frames_of (shown shred)) (state_of shred store acts)
+Matches Moves e place shred store acts =
+    e ≡ Next (frames_of (shown shred)) (state_of shred store acts)
+Matches (Stopped stop) e place shred store acts = StopsAs stop e place shred store acts
+
+-- the same, and the store that it leaves is one that the world stands for
+abbrev pub Follows : Then → Effect → Place → Standing → Parts → List Act → Type 0
+Follows then e place shred world acts =
+    HasStore world (λ store. Matches then e place shred store acts)
 
 -- what comes after an instruction, by its course and the stop
 abbrev pub joined : Course → Stop → Then

@@ -1,5 +1,5 @@
 //! What instructions and the end of a shred do to the unit generators of a world.
-ghost use Rattle.std.specs.Prelude.{◌≡◌, true, not, filter, IfOk, IfErr, OnOk, OnErr};
+ghost use Rattle.std.specs.Prelude.{◌≡◌, not, filter, IfOk, IfErr, OnOk, OnErr};
 ghost use Rattle.std.specs.Prelude.{MatchResult};
 ghost use Rattle.ck_values.specs.Datum.{meant, ARef};
 ghost use Rattle.ck_typed.specs.WellFormed.{IsMade};
@@ -7,10 +7,10 @@ ghost use Rattle.ck_store.specs.Store.{Gives, Fails, IsFitting};
 ghost use Rattle.ck_store.specs.Graph.{place_at, unit_made, connected, disconnected, parameter_of};
 ghost use Rattle.ck_store.specs.Graph.{parameter_set, unit_keyed, unit_staged};
 ghost use Rattle.ugen_graph.specs.Links.{touches};
-ghost use Rattle.value_ops.specs.Ends.{IsEnd, OnTrap};
+ghost use Rattle.value_ops.specs.Ends.{OnTrap};
 ghost use Rattle.value_ops.specs.Heaps.{objects_of};
 ghost use Rattle.machine_world.specs.Units.{detached};
-ghost use Rattle.machine_world.specs.Worlds.{store_of};
+ghost use Rattle.machine_world.specs.Tries.{CanDo, Answers, Refuses, Ends, Does, Becomes};
 
 use crate::readers::reference;
 use crate::world::{World, add_object};
@@ -54,10 +54,9 @@ impl World {
     /// may be, and nothing has changed then.
     pub fn make_unit(&mut self, alloc: Global, kind: UgenKind, maker: u64) -> Result<Ref, OpEnd>
         requires { IsMade kind }
-        ensures made { IfOk result (λ at. unit_made kind maker (store_of self.old)
-            ≡ Gives (record { reference = ARef at.serial; store = store_of self.new })) }
-        ensures end { IfErr result (λ end.
-            IsEnd true end (unit_made kind maker (store_of self.old))) }
+        ensures made { IfOk result (λ at. Does self.old (unit_made kind maker)
+            (λ after. record { reference = ARef at.serial; store = after }) self.new) }
+        ensures end { IfErr result (Ends self.old (unit_made kind maker)) }
         ensures same { IfErr result (λ end. OnTrap end (λ trap. self.new ≡ self.old)) }
         ensures ran { self.new.ran ≡ self.old.ran }
     {
@@ -72,12 +71,11 @@ impl World {
     /// Connects a unit generator to another, behind all connections; null is a trap, and so is a
     /// connection after all that may be made.
     pub fn connect(&mut self, from: Ref, to: &Value) -> Result<(), OpEnd>
-        requires { IsFitting (connected (ARef from.serial) (meant to.now) (store_of self.old)) }
-        ensures connected { OnOk result
-            (connected (ARef from.serial) (meant to.now) (store_of self.old)
-            ≡ Gives (store_of self.new)) }
-        ensures end { IfErr result (λ end.
-            IsEnd true end (connected (ARef from.serial) (meant to.now) (store_of self.old))) }
+        requires { CanDo self.old (connected (ARef from.serial) (meant to.now)) }
+        ensures connected { OnOk result (Does self.old
+            (connected (ARef from.serial) (meant to.now)) (λ after. after) self.new) }
+        ensures end { IfErr result
+            (Ends self.old (connected (ARef from.serial) (meant to.now))) }
         ensures same { OnErr result (self.new ≡ self.old) }
         ensures ran { self.new.ran ≡ self.old.ran }
     {
@@ -101,12 +99,11 @@ impl World {
     /// Takes out the earliest connection from a unit generator to another, where there is one; null
     /// is a trap.
     pub fn disconnect(&mut self, from: Ref, to: &Value) -> Result<(), Trap>
-        requires { IsFitting (disconnected (ARef from.serial) (meant to.now) (store_of self.old)) }
-        ensures disconnected { OnOk result
-            (disconnected (ARef from.serial) (meant to.now) (store_of self.old)
-            ≡ Gives (store_of self.new)) }
-        ensures null { IfErr result (λ trap.
-            disconnected (ARef from.serial) (meant to.now) (store_of self.old) ≡ Fails trap) }
+        requires { CanDo self.old (disconnected (ARef from.serial) (meant to.now)) }
+        ensures disconnected { OnOk result (Does self.old
+            (disconnected (ARef from.serial) (meant to.now)) (λ after. after) self.new) }
+        ensures null { IfErr result
+            (Refuses self.old (disconnected (ARef from.serial) (meant to.now))) }
         ensures same { OnErr result (self.new ≡ self.old) }
         ensures ran { self.new.ran ≡ self.old.ran }
     {
@@ -118,10 +115,10 @@ impl World {
 
     /// A parameter of a unit generator; null is a trap.
     pub fn parameter(&self, at: Ref, p: Param) -> Result<Value, Trap>
-        requires { IsFitting (parameter_of p (ARef at.serial) (store_of self.now)) }
-        ensures { MatchResult result
-            (λ v. parameter_of p (ARef at.serial) (store_of self.now) ≡ Gives (meant v))
-            (λ trap. parameter_of p (ARef at.serial) (store_of self.now) ≡ Fails trap) }
+        requires { CanDo self.now (parameter_of p (ARef at.serial)) }
+        ensures found { IfOk result (λ v.
+            Answers self.now (parameter_of p (ARef at.serial)) (meant v)) }
+        ensures null { IfErr result (Refuses self.now (parameter_of p (ARef at.serial))) }
     {
         let node = node_of(&self.heap, at)?;
         Ok(self.graph.param(node, p))
@@ -136,12 +133,12 @@ impl World {
         p: Param,
         v: Value,
     ) -> Result<Value, OpEnd>
-        requires { IsFitting (parameter_set p (ARef at.serial) (meant v) (store_of self.old)) }
-        ensures set { IfOk result (λ back.
-            parameter_set p (ARef at.serial) (meant v) (store_of self.old)
-            ≡ Gives (record { value = meant back; store = store_of self.new })) }
-        ensures end { IfErr result (λ end.
-            IsEnd true end (parameter_set p (ARef at.serial) (meant v) (store_of self.old))) }
+        requires { CanDo self.old (parameter_set p (ARef at.serial) (meant v)) }
+        ensures set { IfOk result (λ back. Does self.old
+            (parameter_set p (ARef at.serial) (meant v))
+            (λ after. record { value = meant back; store = after }) self.new) }
+        ensures end { IfErr result
+            (Ends self.old (parameter_set p (ARef at.serial) (meant v))) }
         ensures same { OnErr result (self.new ≡ self.old) }
         ensures ran { self.new.ran ≡ self.old.ran }
     {
@@ -158,11 +155,10 @@ impl World {
 
     /// Presses the key of an envelope, or lets it go; null is a trap.
     pub fn key(&mut self, at: Ref, is_on: bool) -> Result<(), Trap>
-        requires { IsFitting (unit_keyed is_on (ARef at.serial) (store_of self.old)) }
-        ensures keyed { OnOk result (unit_keyed is_on (ARef at.serial) (store_of self.old)
-            ≡ Gives (store_of self.new)) }
-        ensures null { IfErr result (λ trap.
-            unit_keyed is_on (ARef at.serial) (store_of self.old) ≡ Fails trap) }
+        requires { CanDo self.old (unit_keyed is_on (ARef at.serial)) }
+        ensures keyed { OnOk result (Does self.old (unit_keyed is_on (ARef at.serial))
+            (λ after. after) self.new) }
+        ensures null { IfErr result (Refuses self.old (unit_keyed is_on (ARef at.serial))) }
         ensures same { OnErr result (self.new ≡ self.old) }
         ensures ran { self.new.ran ≡ self.old.ran }
     {
@@ -181,14 +177,13 @@ impl World {
         sustain: Fix,
         release: i64,
     ) -> Result<(), Trap>
-        requires { IsFitting
-            (unit_staged attack decay sustain release (ARef at.serial) (store_of self.old)) }
-        ensures staged { OnOk result
-            (unit_staged attack decay sustain release (ARef at.serial) (store_of self.old)
-            ≡ Gives (store_of self.new)) }
-        ensures null { IfErr result (λ trap.
-            unit_staged attack decay sustain release (ARef at.serial) (store_of self.old)
-            ≡ Fails trap) }
+        requires { CanDo self.old
+            (unit_staged attack decay sustain release (ARef at.serial)) }
+        ensures staged { OnOk result (Does self.old
+            (unit_staged attack decay sustain release (ARef at.serial))
+            (λ after. after) self.new) }
+        ensures null { IfErr result (Refuses self.old
+            (unit_staged attack decay sustain release (ARef at.serial))) }
         ensures same { OnErr result (self.new ≡ self.old) }
         ensures ran { self.new.ran ≡ self.old.ran }
     {
@@ -200,7 +195,7 @@ impl World {
     /// Takes out all connections that touch a unit generator which this shred made. It takes no
     /// memory.
     pub fn detach(&mut self, maker: u64)
-        ensures store { store_of self.new ≡ detached maker (store_of self.old) }
+        ensures store { Becomes self.old (detached maker) self.new }
         ensures time { self.new.time ≡ self.old.time }
         ensures ran { self.new.ran ≡ self.old.ran }
     {

@@ -1,9 +1,9 @@
 //! Until when a shred waits.
-ghost use Rattle.std.specs.Prelude.{◌≡◌, MatchResult};
+ghost use Rattle.std.specs.Prelude.{IfOk, IfErr};
 ghost use Rattle.ck_values.specs.Datum.{meant};
-ghost use Rattle.ck_store.specs.Store.{At, Gives, Fails, IsFitting};
+ghost use Rattle.ck_store.specs.Store.{At};
 ghost use Rattle.ck_store.specs.Steps.{wait_dur, wait_time};
-ghost use Rattle.machine_world.specs.Worlds.{store_of};
+ghost use Rattle.machine_world.specs.Tries.{CanDo, Answers, Refuses};
 
 use crate::world::World;
 use ck_values::{Trap, Value};
@@ -11,10 +11,9 @@ use ck_values::{Trap, Value};
 /// The time until which a wait for this dur lasts, or its trap.
 #[tactic(auto, unfolding(ck_store::specs::Steps::wait_dur, fixed_point::specs::Fix::nearest_in_range))]
 pub fn wait_dur(d: &Value, world: &World) -> Result<i64, Trap>
-    requires { IsFitting (wait_dur (meant d.now) (store_of world.now)) }
-    ensures { MatchResult result
-        (λ time. wait_dur (meant d.now) (store_of world.now) ≡ Gives (At time))
-        (λ trap. wait_dur (meant d.now) (store_of world.now) ≡ Fails trap) }
+    requires { CanDo world.now (wait_dur (meant d.now)) }
+    ensures until { IfOk result (λ time. Answers world.now (wait_dur (meant d.now)) (At time)) }
+    ensures trap { IfErr result (Refuses world.now (wait_dur (meant d.now))) }
 {
     match d {
         Value::Dur(samples) => {
@@ -32,10 +31,9 @@ pub fn wait_dur(d: &Value, world: &World) -> Result<i64, Trap>
 /// The time of a wait until this time, or its trap.
 #[tactic(auto, unfolding(ck_store::specs::Steps::wait_time))]
 pub fn wait_time(t: &Value, world: &World) -> Result<i64, Trap>
-    requires { IsFitting (wait_time (meant t.now) (store_of world.now)) }
-    ensures { MatchResult result
-        (λ time. wait_time (meant t.now) (store_of world.now) ≡ Gives (At time))
-        (λ trap. wait_time (meant t.now) (store_of world.now) ≡ Fails trap) }
+    requires { CanDo world.now (wait_time (meant t.now)) }
+    ensures until { IfOk result (λ time. Answers world.now (wait_time (meant t.now)) (At time)) }
+    ensures trap { IfErr result (Refuses world.now (wait_time (meant t.now))) }
 {
     match t {
         Value::Time(time) => {

@@ -5,7 +5,7 @@ ghost use Rattle.std.specs.Int.{w64, int_min};
 ghost use Rattle.rand_pcg.specs.Pcg.{pcg32};
 ghost use Rattle.ck_store.specs.Random.{gap, int_drawn, float_drawn, seed_of};
 ghost use Rattle.ugen_kinds.specs.Words.{words_from};
-ghost use Rattle.machine_world.specs.Worlds.{store_of};
+ghost use Rattle.machine_world.specs.Tries.{Becomes, Reads};
 
 use crate::world::World;
 use fixed_point::Fix;
@@ -16,10 +16,9 @@ impl World {
     /// An int between two, both among them, by the next two words of the generator.
     #[tactic(auto, unfolding(crate::specs::Worlds::store_of))]
     pub fn draw_int(&mut self, a: i64, b: i64) -> i64
-        ensures number { result ≡ (int_drawn a b (store_of self.old).words).number }
-        ensures store { store_of self.new ≡ record (store_of self.old) {
-          words = (int_drawn a b (store_of self.old).words).words;
-        } }
+        ensures number { Reads self.old (λ store. (int_drawn a b store.words).number) result }
+        ensures store { Becomes self.old
+            (λ store. record store { words = (int_drawn a b store.words).words }) self.new }
         ensures ran { self.new.ran ≡ self.old.ran }
     {
         draw_int(&mut self.words, a, b)
@@ -28,10 +27,9 @@ impl World {
     /// A float between two, short of the greater, by the next word of the generator.
     #[tactic(auto, unfolding(crate::specs::Worlds::store_of))]
     pub fn draw_fix(&mut self, a: Fix, b: Fix) -> Fix
-        ensures number { result ≡ (float_drawn a b (store_of self.old).words).number }
-        ensures store { store_of self.new ≡ record (store_of self.old) {
-          words = (float_drawn a b (store_of self.old).words).words;
-        } }
+        ensures number { Reads self.old (λ store. (float_drawn a b store.words).number) result }
+        ensures store { Becomes self.old
+            (λ store. record store { words = (float_drawn a b store.words).words }) self.new }
         ensures ran { self.new.ran ≡ self.old.ran }
     {
         draw_fix(&mut self.words, a, b)
@@ -40,8 +38,8 @@ impl World {
     /// Starts the generator of random words anew.
     #[tactic(auto, unfolding(crate::specs::Worlds::store_of, ugen_kinds::specs::Words::words_from))]
     pub fn seed(&mut self, n: i64)
-        ensures store { store_of self.new
-            ≡ record (store_of self.old) { words = words_from (seed_of n) } }
+        ensures store { Becomes self.old
+            (λ store. record store { words = words_from (seed_of n) }) self.new }
         ensures ran { self.new.ran ≡ self.old.ran }
     {
         self.words = Lcg64Xsh32::new(n.cast_unsigned(), 54);

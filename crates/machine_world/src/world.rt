@@ -1,21 +1,23 @@
 ghost use Rattle.std.specs.Prelude.{◌≡◌, suc, pred, ◌<◌, ◌≤◌, ◌^◌, pos, ◌+ℤ◌, ◌≤ℤ◌, ◌<ℤ◌};
-ghost use Rattle.std.specs.Prelude.{[], ◌∷◌, ◌++◌, length, map, true, IfOk, IfErr, OnOk, OnErr, MatchResult};
+ghost use Rattle.std.specs.Prelude.{[], ◌∷◌, ◌++◌, length, map, true, IfOk, IfErr, OnOk, OnErr};
 ghost use Rattle.fixed_point.specs.Fix.{sample_of};
 ghost use Rattle.ugen_sample.specs.Sample.{dac, last_of};
 ghost use Rattle.ck_store.specs.Graph.{sounded};
-ghost use Rattle.ck_store.specs.Store.{first_store, first_objects, Gives, Fails, IsFitting};
+ghost use Rattle.ck_store.specs.Store.{first_store, first_objects, Gives, Fails};
 ghost use Rattle.ck_store.specs.Objects.{object_made, referred, field_of, with_field, method_of};
 ghost use Rattle.ck_store.specs.Arrays.{item_of, with_item, appended, item_count, cleared};
 ghost use Rattle.ck_store.specs.Arrays.{has_item, filled, row_made, sizes_of, grid_made, array_made};
 ghost use Rattle.value_ops.specs.Heaps.{shown_body};
-ghost use Rattle.value_ops.specs.Ends.{IsGiven, IsEnd, IsPartEnd, OnTrap, OnWant};
+ghost use Rattle.value_ops.specs.Ends.{IsGiven, OnTrap, OnWant};
 ghost use Rattle.object_heap.specs.Objects.{MakesObject, next};
 ghost use Rattle.ck_base.specs.declared.limits.TheConstants.{MAX_FILES, MAX_OBJECTS, MAX_SAMPLES};
 ghost use Rattle.ck_base.specs.declared.limits.TheConstants.{MAX_SPORKS};
 ghost use Rattle.ck_values.specs.declared.trap.Trap.TheVariants.{SporkLimit, ObjectLimit};
 ghost use Rattle.ck_store.specs.Steps.{static_of, with_static, ticked};
 ghost use Rattle.ck_code.specs.Fitting.{IsFitStore};
-ghost use Rattle.machine_world.specs.Worlds.{counted, store_of, StandsFor};
+ghost use Rattle.machine_world.specs.Tries.{CanDo, Answers, Refuses, Ends, Does, DoesPartly};
+ghost use Rattle.machine_world.specs.Tries.{Becomes, Reads};
+ghost use Rattle.machine_world.specs.Worlds.{counted, StandsFor};
 ghost use Rattle.ck_values.specs.Datum.{meant, all_meant, first_value, AnInt, ARef};
 
 use crate::readers::int;
@@ -38,7 +40,7 @@ use value_ops::{OpEnd, append, array, clear, fill, grid, has_item, item, row, se
 /// their connections, the generator of random words, the numbers of shreds, and the count of the
 /// instructions that were begun.
 ///
-/// Contracts see them as they are; `store_of` is the store that they stand for.
+/// Contracts see them as they are, and speak of each store that they stand for.
 #[derive(Drop)]
 pub struct World {
     time: i64,
@@ -82,8 +84,8 @@ impl World {
         ensures store { IfOk result (λ world.
             StandsFor world (first_store (length code.now.mains) code.now.statics)) }
         ensures ran { IfOk result (λ world. world.ran ≡ 0) }
-        ensures fits { IfOk result (λ world.
-            length code.now.mains ≤ MAX_FILES → IsFitStore code.now (store_of world)) }
+        ensures fits { OnOk result (length code.now.mains ≤ MAX_FILES →
+            IsFitStore code.now (first_store (length code.now.mains) code.now.statics)) }
     {
         let parts = code.parts();
         let heap = first_heap(alloc)?;
@@ -112,7 +114,7 @@ impl World {
     /// How many numbers shreds were given.
     #[tactic(auto, unfolding(crate::specs::Worlds::store_of))]
     pub fn shreds(&self) -> u64
-        ensures { result ≡ pred (store_of self.now).next_shred }
+        ensures { Reads self.now (λ store. pred store.next_shred) result }
     {
         self.next_shred.saturating_sub(1)
     }
@@ -120,7 +122,7 @@ impl World {
     /// How many objects were made, `dac` and `blackhole` with them.
     #[tactic(auto, unfolding(crate::specs::Worlds::store_of))]
     pub fn made(&self) -> u64
-        ensures { result ≡ length (store_of self.now).objects }
+        ensures { Reads self.now (λ store. length store.objects) result }
     {
         self.heap.made()
     }
@@ -129,7 +131,7 @@ impl World {
     #[tactic(auto, unfolding(crate::specs::Worlds::store_of))]
     pub fn now(&self) -> i64
         ensures now { result ≡ self.now.time }
-        ensures store { result ≡ (store_of self.now).now }
+        ensures store { Reads self.now (λ store. store.now) result }
         ensures count { self.now.ran < 2 ^ 64 }
     {
         self.time
@@ -141,10 +143,10 @@ impl World {
     #[tactic(auto, unfolding(crate::specs::Worlds::store_of))]
     pub fn sample(&mut self) -> i16
         requires { self.old.time <ℤ pos MAX_SAMPLES }
-        ensures value { result
-            ≡ sample_of (last_of (sounded (store_of self.old)).units dac).left }
+        ensures value { Reads self.old
+            (λ store. sample_of (last_of (sounded store).units dac).left) result }
         ensures time { self.new.time ≡ self.old.time +ℤ pos 1 }
-        ensures store { store_of self.new ≡ ticked (sounded (store_of self.old)) }
+        ensures store { Becomes self.old (λ store. ticked (sounded store)) self.new }
         ensures ran { self.new.ran ≡ self.old.ran }
     {
         let (left, _right) = self.graph.tick();
@@ -159,7 +161,7 @@ impl World {
         requires later { self.old.time ≤ℤ time }
         requires within { time ≤ℤ pos MAX_SAMPLES }
         ensures time { self.new ≡ record self.old { time = time } }
-        ensures store { store_of self.new ≡ record (store_of self.old) { now = time } }
+        ensures store { Becomes self.old (λ store. record store { now = time }) self.new }
     {
         self.time = time;
     }
@@ -167,8 +169,8 @@ impl World {
     /// The static with this number.
     #[tactic(auto, using(crate::proofs::Numbered::statics_read), unfolding(crate::specs::Worlds::store_of))]
     pub fn static_at(&self, i: u32) -> &Value
-        requires { IsFitting (static_of (store_of self.now) i) }
-        ensures { static_of (store_of self.now) i ≡ Gives (meant result.now) }
+        requires { CanDo self.now (λ store. static_of store i) }
+        ensures { Answers self.now (λ store. static_of store i) (meant result.now) }
     {
         &self.statics.items()[i as usize]
     }
@@ -176,10 +178,11 @@ impl World {
     /// Puts a value in the place of a static, which is handed back.
     #[tactic(auto, using(crate::proofs::Numbered::statics), unfolding(crate::specs::Worlds::store_of))]
     pub fn set_static(&mut self, i: u32, v: Value) -> Value
-        requires { IsFitting (with_static (store_of self.old) i (meant v)) }
-        ensures set { with_static (store_of self.old) i (meant v) ≡ Gives (store_of self.new) }
+        requires { CanDo self.old (λ store. with_static store i (meant v)) }
+        ensures set { Does self.old (λ store. with_static store i (meant v)) (λ after. after)
+            self.new }
         ensures ran { self.new.ran ≡ self.old.ran }
-        ensures old { static_of (store_of self.old) i ≡ Gives (meant result) }
+        ensures old { Answers self.old (λ store. static_of store i) (meant result) }
     {
         self.statics.replace(i as usize, v)
     }
@@ -187,11 +190,10 @@ impl World {
     /// Makes an object of a class, whose fields begin with their first values; `Trap` comes exactly
     /// where as many objects were made as may be.
     pub fn make(&mut self, alloc: Global, code: &CodeParts, class: u32) -> Result<Ref, OpEnd>
-        requires { IsFitting (object_made code.now.classes class (store_of self.old)) }
-        ensures made { IfOk result (λ at. object_made code.now.classes class (store_of self.old)
-            ≡ Gives (record { reference = ARef at.serial; store = store_of self.new })) }
-        ensures end { IfErr result (λ end.
-            IsEnd true end (object_made code.now.classes class (store_of self.old))) }
+        requires { CanDo self.old (object_made code.now.classes class) }
+        ensures made { IfOk result (λ at. Does self.old (object_made code.now.classes class)
+            (λ after. record { reference = ARef at.serial; store = after }) self.new) }
+        ensures end { IfErr result (Ends self.old (object_made code.now.classes class)) }
         ensures same { OnErr result (self.new ≡ self.old) }
         ensures ran { self.new.ran ≡ self.old.ran }
     {
@@ -204,11 +206,12 @@ impl World {
 
     // The class and the fields of the object that a reference refers to; null is a trap.
     fn instance(&self, at: Ref) -> Result<(u32, &[Value]), Trap>
-        requires { IsFitting (referred (store_of self.now).objects (ARef at.serial)) }
-        ensures found { IfOk result (λ o. referred (store_of self.now).objects (ARef at.serial)
-            ≡ Gives (record { class = o.0; fields = all_meant o.1.now })) }
-        ensures null { IfErr result (λ trap.
-            referred (store_of self.now).objects (ARef at.serial) ≡ Fails trap) }
+        requires { CanDo self.now (λ store. referred store.objects (ARef at.serial)) }
+        ensures found { IfOk result (λ o.
+            Answers self.now (λ store. referred store.objects (ARef at.serial))
+            (record { class = o.0; fields = all_meant o.1.now })) }
+        ensures null { IfErr result
+            (Refuses self.now (λ store. referred store.objects (ARef at.serial))) }
     {
         if at.serial == 0 {
             return Err(Trap::NullPointer);
@@ -222,11 +225,11 @@ impl World {
     /// A field of an object; null is a trap.
     #[tactic(auto, using(crate::proofs::Parts::parts))]
     pub fn field(&self, at: Ref, i: u32) -> Result<&Value, Trap>
-        requires { IsFitting (field_of (store_of self.now) (ARef at.serial) i) }
+        requires { CanDo self.now (λ store. field_of store (ARef at.serial) i) }
         ensures found { IfOk result (λ v.
-            field_of (store_of self.now) (ARef at.serial) i ≡ Gives (meant v.now)) }
-        ensures null { IfErr result (λ trap.
-            field_of (store_of self.now) (ARef at.serial) i ≡ Fails trap) }
+            Answers self.now (λ store. field_of store (ARef at.serial) i) (meant v.now)) }
+        ensures null { IfErr result
+            (Refuses self.now (λ store. field_of store (ARef at.serial) i)) }
     {
         let (_, fields) = self.instance(at)?;
         Ok(&fields[i as usize])
@@ -236,12 +239,11 @@ impl World {
     /// the value is let go.
     #[tactic(auto, using(crate::proofs::Parts::parts))]
     pub fn set_field(&mut self, at: Ref, i: u32, v: Value) -> Result<Value, Trap>
-        requires { IsFitting (with_field (store_of self.old) (ARef at.serial) i (meant v)) }
-        ensures set { IfOk result (λ old.
-            with_field (store_of self.old) (ARef at.serial) i (meant v)
-            ≡ Gives (store_of self.new)) }
-        ensures null { IfErr result (λ trap.
-            with_field (store_of self.old) (ARef at.serial) i (meant v) ≡ Fails trap) }
+        requires { CanDo self.old (λ store. with_field store (ARef at.serial) i (meant v)) }
+        ensures set { OnOk result (Does self.old
+            (λ store. with_field store (ARef at.serial) i (meant v)) (λ after. after) self.new) }
+        ensures null { IfErr result (Refuses self.old
+            (λ store. with_field store (ARef at.serial) i (meant v))) }
         ensures same { OnErr result (self.new ≡ self.old) }
         ensures ran { self.new.ran ≡ self.old.ran }
     {
@@ -254,13 +256,12 @@ impl World {
     /// An item of an array; null is a trap, and so is an index that isn't there.
     #[tactic(auto, unfolding(crate::specs::Worlds::store_of))]
     pub fn item(&self, at: Ref, index: &Value) -> Result<&Value, Trap>
-        requires { IsFitting
-            (item_of (store_of self.now).objects (ARef at.serial) (meant index.now)) }
-        ensures { MatchResult result
-            (λ v. item_of (store_of self.now).objects (ARef at.serial) (meant index.now)
-            ≡ Gives (meant v.now))
-            (λ trap. item_of (store_of self.now).objects (ARef at.serial) (meant index.now)
-            ≡ Fails trap) }
+        requires { CanDo self.now
+            (λ store. item_of store.objects (ARef at.serial) (meant index.now)) }
+        ensures found { IfOk result (λ v. Answers self.now
+            (λ store. item_of store.objects (ARef at.serial) (meant index.now)) (meant v.now)) }
+        ensures trap { IfErr result (Refuses self.now
+            (λ store. item_of store.objects (ARef at.serial) (meant index.now))) }
     {
         if at.serial == 0 {
             return Err(Trap::NullPointer);
@@ -271,14 +272,13 @@ impl World {
     /// Puts a value in the place of an item of an array, which is handed back; null is a trap, and
     /// so is an index that isn't there: the value is let go then.
     pub fn set_item(&mut self, at: Ref, index: &Value, v: Value) -> Result<Value, Trap>
-        requires { IsFitting
-            (with_item (store_of self.old) (ARef at.serial) (meant index.now) (meant v)) }
-        ensures set { IfOk result (λ old.
-            with_item (store_of self.old) (ARef at.serial) (meant index.now) (meant v)
-            ≡ Gives (store_of self.new)) }
-        ensures trap { IfErr result (λ trap.
-            with_item (store_of self.old) (ARef at.serial) (meant index.now) (meant v)
-            ≡ Fails trap) }
+        requires { CanDo self.old
+            (λ store. with_item store (ARef at.serial) (meant index.now) (meant v)) }
+        ensures set { OnOk result (Does self.old
+            (λ store. with_item store (ARef at.serial) (meant index.now) (meant v))
+            (λ after. after) self.new) }
+        ensures trap { IfErr result (Refuses self.old
+            (λ store. with_item store (ARef at.serial) (meant index.now) (meant v))) }
         ensures same { OnErr result (self.new ≡ self.old) }
         ensures ran { self.new.ran ≡ self.old.ran }
     {
@@ -294,10 +294,11 @@ impl World {
     /// The number of items of an array; null is a trap.
     #[tactic(auto, unfolding(crate::specs::Worlds::store_of))]
     pub fn size(&self, at: Ref) -> Result<i64, Trap>
-        requires { IsFitting (item_count (store_of self.now).objects (ARef at.serial)) }
-        ensures { MatchResult result
-            (λ n. item_count (store_of self.now).objects (ARef at.serial) ≡ Gives (AnInt n))
-            (λ trap. item_count (store_of self.now).objects (ARef at.serial) ≡ Fails trap) }
+        requires { CanDo self.now (λ store. item_count store.objects (ARef at.serial)) }
+        ensures found { IfOk result (λ n.
+            Answers self.now (λ store. item_count store.objects (ARef at.serial)) (AnInt n)) }
+        ensures null { IfErr result
+            (Refuses self.now (λ store. item_count store.objects (ARef at.serial))) }
     {
         size(&self.heap, at)
     }
@@ -305,13 +306,12 @@ impl World {
     /// Whether an array has an item with this index; null is a trap.
     #[tactic(auto, unfolding(crate::specs::Worlds::store_of))]
     pub fn has_item(&self, at: Ref, index: &Value) -> Result<bool, Trap>
-        requires { IsFitting
-            (has_item (store_of self.now).objects (ARef at.serial) (meant index.now)) }
-        ensures { MatchResult result
-            (λ is. has_item (store_of self.now).objects (ARef at.serial) (meant index.now)
-            ≡ Gives is)
-            (λ trap. has_item (store_of self.now).objects (ARef at.serial) (meant index.now)
-            ≡ Fails trap) }
+        requires { CanDo self.now
+            (λ store. has_item store.objects (ARef at.serial) (meant index.now)) }
+        ensures found { IfOk result (Answers self.now
+            (λ store. has_item store.objects (ARef at.serial) (meant index.now))) }
+        ensures null { IfErr result (Refuses self.now
+            (λ store. has_item store.objects (ARef at.serial) (meant index.now))) }
     {
         if at.serial == 0 {
             return Err(Trap::NullPointer);
@@ -321,11 +321,11 @@ impl World {
 
     /// Puts a value at the end of an array; null is a trap, and so is an array that is full.
     pub fn append(&mut self, at: Ref, v: Value) -> Result<(), OpEnd>
-        requires { IsFitting (appended (store_of self.old) (ARef at.serial) (meant v)) }
-        ensures grown { OnOk result (appended (store_of self.old) (ARef at.serial) (meant v)
-            ≡ Gives (store_of self.new)) }
-        ensures end { IfErr result (λ end.
-            IsEnd true end (appended (store_of self.old) (ARef at.serial) (meant v))) }
+        requires { CanDo self.old (λ store. appended store (ARef at.serial) (meant v)) }
+        ensures grown { OnOk result (Does self.old
+            (λ store. appended store (ARef at.serial) (meant v)) (λ after. after) self.new) }
+        ensures end { IfErr result
+            (Ends self.old (λ store. appended store (ARef at.serial) (meant v))) }
         ensures same { OnErr result (self.new ≡ self.old) }
         ensures ran { self.new.ran ≡ self.old.ran }
     {
@@ -337,11 +337,11 @@ impl World {
 
     /// Takes all items out of an array; null is a trap.
     pub fn clear(&mut self, at: Ref) -> Result<(), Trap>
-        requires { IsFitting (cleared (store_of self.old) (ARef at.serial)) }
-        ensures cleared { OnOk result
-            (cleared (store_of self.old) (ARef at.serial) ≡ Gives (store_of self.new)) }
-        ensures null { IfErr result (λ trap.
-            cleared (store_of self.old) (ARef at.serial) ≡ Fails trap) }
+        requires { CanDo self.old (λ store. cleared store (ARef at.serial)) }
+        ensures cleared { OnOk result (Does self.old
+            (λ store. cleared store (ARef at.serial)) (λ after. after) self.new) }
+        ensures null { IfErr result
+            (Refuses self.old (λ store. cleared store (ARef at.serial))) }
         ensures same { OnErr result (self.new ≡ self.old) }
         ensures ran { self.new.ran ≡ self.old.ran }
     {
@@ -351,14 +351,13 @@ impl World {
     /// Stores a value in an item of an array, where the array has it, and gives the next index;
     /// null is a trap.
     pub fn fill(&mut self, at: Ref, index: &Value, v: Value) -> Result<i64, Trap>
-        requires { IsFitting
-            (filled (store_of self.old) (ARef at.serial) (meant index.now) (meant v)) }
-        ensures filled { IfOk result (λ next.
-            filled (store_of self.old) (ARef at.serial) (meant index.now) (meant v)
-            ≡ Gives (record { next = AnInt next; store = store_of self.new })) }
-        ensures null { IfErr result (λ trap.
-            filled (store_of self.old) (ARef at.serial) (meant index.now) (meant v)
-            ≡ Fails trap) }
+        requires { CanDo self.old
+            (λ store. filled store (ARef at.serial) (meant index.now) (meant v)) }
+        ensures filled { IfOk result (λ next. Does self.old
+            (λ store. filled store (ARef at.serial) (meant index.now) (meant v))
+            (λ after. record { next = AnInt next; store = after }) self.new) }
+        ensures null { IfErr result (Refuses self.old
+            (λ store. filled store (ARef at.serial) (meant index.now) (meant v))) }
         ensures same { OnErr result (self.new ≡ self.old) }
         ensures ran { self.new.ran ≡ self.old.ran }
     {
@@ -375,10 +374,9 @@ impl World {
     /// Makes an array of so many first values; a size that may not be is a trap, and so is an
     /// object after all that may be made.
     pub fn make_row(&mut self, alloc: Global, elem: Elem, n: i64) -> Result<Ref, OpEnd>
-        ensures made { IfOk result (λ at. row_made elem (AnInt n) (store_of self.old)
-            ≡ Gives (record { reference = ARef at.serial; store = store_of self.new })) }
-        ensures end { IfErr result (λ end.
-            IsEnd true end (row_made elem (AnInt n) (store_of self.old))) }
+        ensures made { IfOk result (λ at. Does self.old (row_made elem (AnInt n))
+            (λ after. record { reference = ARef at.serial; store = after }) self.new) }
+        ensures end { IfErr result (Ends self.old (row_made elem (AnInt n))) }
         ensures same { OnErr result (self.new ≡ self.old) }
         ensures ran { self.new.ran ≡ self.old.ran }
     {
@@ -387,11 +385,10 @@ impl World {
 
     /// Makes an array of arrays of first values; a trap leaves what was made before it.
     pub fn make_grid(&mut self, alloc: Global, elem: Elem, n: i64, m: i64) -> Result<Ref, OpEnd>
-        ensures made { IfOk result (λ at.
-            grid_made elem (AnInt n) (AnInt m) (store_of self.old)
-            ≡ record { store = store_of self.new; end = Gives (ARef at.serial) }) }
-        ensures end { IfErr result (λ end. IsPartEnd end
-            (grid_made elem (AnInt n) (AnInt m) (store_of self.old)) (store_of self.new)) }
+        ensures made { IfOk result (λ at. DoesPartly self.old
+            (grid_made elem (AnInt n) (AnInt m)) (Gives (ARef at.serial)) self.new) }
+        ensures end { IfErr result (λ end. OnTrap end (λ trap. DoesPartly self.old
+            (grid_made elem (AnInt n) (AnInt m)) (Fails trap) self.new)) }
         ensures sizes { IfErr result (λ end.
             OnWant end (IsGiven (sizes_of (AnInt n) (AnInt m)))) }
         ensures ran { self.new.ran ≡ self.old.ran }
@@ -401,11 +398,9 @@ impl World {
 
     /// Makes an array of these items, or of arrays; an object after all that may be made is a trap.
     pub fn make_array(&mut self, elem: Elem, two: bool, items: List<Value>) -> Result<Ref, OpEnd>
-        ensures made { IfOk result (λ at.
-            array_made elem two (all_meant items) (store_of self.old)
-            ≡ Gives (record { reference = ARef at.serial; store = store_of self.new })) }
-        ensures end { IfErr result (λ end.
-            IsEnd true end (array_made elem two (all_meant items) (store_of self.old))) }
+        ensures made { IfOk result (λ at. Does self.old (array_made elem two (all_meant items))
+            (λ after. record { reference = ARef at.serial; store = after }) self.new) }
+        ensures end { IfErr result (Ends self.old (array_made elem two (all_meant items))) }
         ensures same { OnErr result (self.new ≡ self.old) }
         ensures ran { self.new.ran ≡ self.old.ran }
     {
@@ -415,14 +410,12 @@ impl World {
     /// The function in a slot of an object; null is a trap.
     #[tactic(auto, using(crate::proofs::Parts::parts))]
     pub fn method(&self, code: &CodeParts, at: Ref, slot: u32) -> Result<u32, Trap>
-        requires { IsFitting
-            (method_of code.now.classes (store_of self.now).objects (ARef at.serial) slot) }
-        ensures found { IfOk result (λ fun.
-            method_of code.now.classes (store_of self.now).objects (ARef at.serial) slot
-            ≡ Gives fun) }
-        ensures null { IfErr result (λ trap.
-            method_of code.now.classes (store_of self.now).objects (ARef at.serial) slot
-            ≡ Fails trap) }
+        requires { CanDo self.now
+            (λ store. method_of code.now.classes store.objects (ARef at.serial) slot) }
+        ensures found { IfOk result (Answers self.now
+            (λ store. method_of code.now.classes store.objects (ARef at.serial) slot)) }
+        ensures null { IfErr result (Refuses self.now
+            (λ store. method_of code.now.classes store.objects (ARef at.serial) slot)) }
     {
         let (class, _) = self.instance(at)?;
         let virtuals = &code.classes.items()[class as usize].virtuals;
@@ -455,7 +448,7 @@ impl World {
     #[tactic(auto, unfolding(crate::specs::Worlds::store_of))]
     pub fn count(&mut self, begun: u64)
         ensures ran { self.new ≡ record self.old { ran = counted self.old.ran begun } }
-        ensures store { store_of self.new ≡ store_of self.old }
+        ensures store { Becomes self.old (λ store. store) self.new }
     {
         self.ran = self.ran.saturating_add(begun);
     }

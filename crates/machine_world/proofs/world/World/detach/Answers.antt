@@ -2,11 +2,13 @@ use Rattle.std.proofs.Common.{ap, ◌∙◌}
 use Rattle.ugen_graph.specs.Wiring.{Network}
 use Rattle.machine_world.specs.Units.{are_taken}
 use Rattle.machine_world.proofs.Graphs.{detached_so}
+use Rattle.machine_world.proofs.Stands.{becomes_so}
 use Rattle.machine_world.proofs.world.World.detach.Goals as goal
 
 pub returns-clause-store : goal.returns-clause-store
 returns-clause-store c =
-    detached_so _ _ c.detach_all.new.graph c.args.maker c.self.view_is c.detach_all.ensures
+    becomes_so _ _ _
+    (detached_so _ _ c.detach_all.new.graph c.args.maker c.self.view_is c.detach_all.ensures)
 
 pub invariant_of-self : goal.invariant_of-self
 invariant_of-self c = (

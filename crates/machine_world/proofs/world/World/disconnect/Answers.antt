@@ -9,13 +9,14 @@ use Rattle.machine_world.specs.Units.{are_taken}
 use Rattle.machine_world.specs.Worlds.{store_of}
 use Rattle.machine_world.proofs.Located.{unit_refers, disconnect_first, disconnect_null, disconnect_second, disconnect_null_second}
 use Rattle.machine_world.proofs.Graphs.{unit_there, place_there, disconnect_made}
+use Rattle.machine_world.proofs.Stands.{of_some, to_each, does_so}
 use Rattle.machine_world.proofs.world.World.disconnect.Goals as goal
 
 pub node_of-requires-clause-unit : goal.node_of-requires-clause-unit
 node_of-requires-clause-unit c =
     let from = ARef c.args.from.serial in
     unit_there _ _ c.self.view_is from
-    (disconnect_first (store_of c.args.self.now) from (meant c.args.to.now) c.requires)
+    (disconnect_first (store_of c.args.self.now) from (meant c.args.to.now) (of_some _ _ c.requires))
 
 pub returns-in_err-from-clause-null : goal.returns-in_err-from-clause-null
 returns-in_err-from-clause-null c =
@@ -23,8 +24,9 @@ returns-in_err-from-clause-null c =
     let trap = c.in_err-from.field-0.0 in
     let from = ARef c.args.from.serial in
     rw (p.1, p.2)
+    (to_each _ _
     (disconnect_null (store_of c.args.self.now) from (meant c.args.to.now) trap
-    (place_there _ _ c.self.view_is from (Fails trap) (c.in_err-from.ensures {u = tt})))
+    (place_there _ _ c.self.view_is from (Fails trap) (c.in_err-from.ensures {u = tt}))))
 
 pub reference-requires : goal.reference-requires
 reference-requires c =
@@ -33,7 +35,7 @@ reference-requires c =
     let to = meant c.args.to.now in
     unit_refers store.objects to
     (disconnect_second store from to c.in_ok-from.from
-    (place_there _ _ c.self.view_is from (Gives c.in_ok-from.from) c.in_ok-from.ensures) c.requires)
+    (place_there _ _ c.self.view_is from (Gives c.in_ok-from.from) c.in_ok-from.ensures) (of_some _ _ c.requires))
 
 pub node_of-requires-2-clause-unit : goal.node_of-requires-2-clause-unit
 node_of-requires-2-clause-unit c =
@@ -43,7 +45,7 @@ node_of-requires-2-clause-unit c =
     subst (λ d. IsFitting (place_at (objects_of c.self.inside.heap) d)) c.reference.ensures
     (unit_there _ _ c.self.view_is to
     (disconnect_second store from to c.in_ok-from.from
-    (place_there _ _ c.self.view_is from (Gives c.in_ok-from.from) c.in_ok-from.ensures) c.requires))
+    (place_there _ _ c.self.view_is from (Gives c.in_ok-from.from) c.in_ok-from.ensures) (of_some _ _ c.requires)))
 
 pub returns-in_err-to-clause-null : goal.returns-in_err-to-clause-null
 returns-in_err-to-clause-null c =
@@ -54,16 +56,18 @@ returns-in_err-to-clause-null c =
     let null = subst (λ d. place_at (objects_of c.self.inside.heap) d ≡ Fails trap) (sym c.reference.ensures)
     (c.in_err-to.ensures {u = tt}) in
     rw (p.1, p.2)
+    (to_each _ _
     (disconnect_null_second (store_of c.args.self.now) from to c.in_ok-from.from trap
-    (place_there _ _ c.self.view_is from (Gives c.in_ok-from.from) c.in_ok-from.ensures) c.requires
-    (place_there _ _ c.self.view_is to (Fails trap) null))
+    (place_there _ _ c.self.view_is from (Gives c.in_ok-from.from) c.in_ok-from.ensures) (of_some _ _ c.requires)
+    (place_there _ _ c.self.view_is to (Fails trap) null)))
 
 pub returns-clause-disconnected : goal.returns-clause-disconnected
 returns-clause-disconnected c =
-    let there = subst (λ d. place_at (objects_of c.self.inside.heap) d ≡ Gives c.in_ok-to.to)
+    does_so _ _ _ _
+    (let there = subst (λ d. place_at (objects_of c.self.inside.heap) d ≡ Gives c.in_ok-to.to)
     (sym c.reference.ensures) c.in_ok-to.ensures in
     disconnect_made _ _ c.self.view_is c.disconnect.new.self (ARef c.args.from.serial) (meant c.args.to.now)
-    c.in_ok-from.from c.in_ok-to.to c.in_ok-from.ensures there c.requires c.disconnect.ensures.links
+    c.in_ok-from.from c.in_ok-to.to c.in_ok-from.ensures there (of_some _ _ c.requires) c.disconnect.ensures.links)
 
 pub invariant_of-self : goal.invariant_of-self
 invariant_of-self c = (

@@ -7,30 +7,33 @@ use Rattle.machine_world.specs.Worlds.{store_of}
 use Rattle.machine_world.proofs.Located.{change_first, change_null}
 use Rattle.machine_world.proofs.Graphs.{unit_there, place_there, can_change, is_changed}
 use Rattle.machine_world.proofs.Places.{taken_put}
+use Rattle.machine_world.proofs.Stands.{of_some, to_each, does_so}
 use Rattle.machine_world.proofs.world.World.key.Goals as goal
 
 pub node_of-requires-clause-unit : goal.node_of-requires-clause-unit
 node_of-requires-clause-unit c =
     unit_there _ _ c.self.view_is (ARef c.args.at.serial)
-    (change_first (keyed c.args.is_on) (store_of c.args.self.now) (ARef c.args.at.serial) c.requires)
+    (change_first (keyed c.args.is_on) (store_of c.args.self.now) (ARef c.args.at.serial) (of_some _ _ c.requires))
 
 pub returns-in_err-node-clause-null : goal.returns-in_err-node-clause-null
 returns-in_err-node-clause-null c =
     let p = err_from_is_err_and c.from_residual.result c.from_residual.ensures.1 in
     let trap = c.in_err-node.field-0.0 in
     rw (p.1, p.2)
+    (to_each _ _
     (change_null (keyed c.args.is_on) (store_of c.args.self.now) (ARef c.args.at.serial) trap
-    (place_there _ _ c.self.view_is (ARef c.args.at.serial) (Fails trap) (c.in_err-node.ensures {u = tt})))
+    (place_there _ _ c.self.view_is (ARef c.args.at.serial) (Fails trap) (c.in_err-node.ensures {u = tt}))))
 
 pub key-requires : goal.key-requires
 key-requires c =
     can_change _ _ c.self.view_is (ARef c.args.at.serial) c.in_ok-node.node (keyed c.args.is_on)
-    c.in_ok-node.ensures c.requires
+    c.in_ok-node.ensures (of_some _ _ c.requires)
 
 pub returns-clause-keyed : goal.returns-clause-keyed
 returns-clause-keyed c =
-    is_changed _ _ c.self.view_is (ARef c.args.at.serial) c.in_ok-node.node (keyed c.args.is_on)
-    c.in_ok-node.ensures c.key.new.self c.requires c.key.ensures
+    does_so _ _ _ _
+    (is_changed _ _ c.self.view_is (ARef c.args.at.serial) c.in_ok-node.node (keyed c.args.is_on)
+    c.in_ok-node.ensures c.key.new.self (of_some _ _ c.requires) c.key.ensures)
 
 pub invariant_of-self : goal.invariant_of-self
 invariant_of-self c = (
@@ -41,5 +44,5 @@ invariant_of-self c = (
       (λ u. keyed c.args.is_on u.generator)
       (λ u g. let after : UnitState = record u { generator = g } in after)
       (can_change _ _ c.self.view_is (ARef c.args.at.serial) c.in_ok-node.node
-      (keyed c.args.is_on) c.in_ok-node.ensures c.requires) c.key.ensures c.self.invariant.3,
+      (keyed c.args.is_on) c.in_ok-node.ensures (of_some _ _ c.requires)) c.key.ensures c.self.invariant.3,
 )

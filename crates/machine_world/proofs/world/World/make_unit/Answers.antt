@@ -13,19 +13,22 @@ use Rattle.machine_world.proofs.Graphs.{unit_added, unit_refused, unit_given}
 use Rattle.machine_world.proofs.Made.{ends_so, no_trap, made_first}
 use Rattle.machine_world.proofs.Places.{at_end, taken_added}
 use Rattle.machine_world.proofs.Results.{ok_then, err_then, err_both}
+use Rattle.machine_world.proofs.Stands.{to_each, does_so}
 use Rattle.machine_world.proofs.world.World.make_unit.Goals as goal
 
 pub returns-then-is_full-clause-end : goal.returns-then-is_full-clause-end
 returns-then-is_full-clause-end c =
-    unit_refused _ _ c.self.view_is c.args.kind c.args.maker c.self.invariant.1
-    (c.is_full.ensures.0 c.if-is_full.true)
+    to_each _ _
+    (unit_refused _ _ c.self.view_is c.args.kind c.args.maker c.self.invariant.1
+    (c.is_full.ensures.0 c.if-is_full.true))
 
 pub returns-in_err-node-clause-end : goal.returns-in_err-node-clause-end
 returns-in_err-node-clause-end c =
     let few = not_past c.is_full.result _ _ c.is_full.ensures c.if-is_full.false in
     let p = err_from_is_err_and c.from_residual.result c.from_residual.ensures.1 in
     rw (p.1, p.2)
-    (unit_given _ _ c.self.view_is c.args.kind c.args.maker c.self.invariant.1 few)
+    (to_each _ _
+    (unit_given _ _ c.self.view_is c.args.kind c.args.maker c.self.invariant.1 few))
 
 pub add-requires : goal.add-requires
 add-requires c = made_has_state c.args.kind c.requires
@@ -37,9 +40,9 @@ returns-clause-made c =
     (first_unit c.args.kind c.args.maker (c.made.result + 1)) c.self.invariant.3
     c.in_ok-node.ensures.place c.in_ok-node.ensures.free in
     ok_then c.add_object.result _ _
-    (λ at made. unit_added _ _ c.self.view_is c.add_object.new.heap c.add.new.self c.args.kind
+    (λ at made. does_so _ _ _ _ (unit_added _ _ c.self.view_is c.add_object.new.heap c.add.new.self c.args.kind
     c.args.maker c.in_ok-node.node (c.made.result + 1) at c.self.invariant.1 number end
-    c.in_ok-node.ensures.added made)
+    c.in_ok-node.ensures.added made))
     c.add_object.ensures.made
 
 pub invariant_of-self-2 : goal.invariant_of-self-2
@@ -59,11 +62,11 @@ pub returns-clause-end : goal.returns-clause-end
 returns-clause-end c =
     let heap = c.self.inside.heap in
     err_both c.add_object.result _ _ _
-    (λ e so wants. ends_so (MAX_OBJECTS < next heap) (next heap ≤ MAX_OBJECTS)
+    (λ e so wants. to_each _ _ (ends_so (MAX_OBJECTS < next heap) (next heap ≤ MAX_OBJECTS)
     (unit_made c.args.kind c.args.maker (store_of c.args.self.now)) e
     (λ many. unit_refused _ _ c.self.view_is c.args.kind c.args.maker c.self.invariant.1 many)
     (λ few. unit_given _ _ c.self.view_is c.args.kind c.args.maker c.self.invariant.1 few)
-    so wants)
+    so wants))
     c.add_object.ensures.limit c.add_object.ensures.room
 
 pub returns-clause-same : goal.returns-clause-same

@@ -5,7 +5,6 @@ use Rattle.ugen_sample.specs.UnitState.{first_units}
 use Rattle.ugen_kinds.specs.Words.{words_from, first_words}
 use Rattle.ugen_graph.specs.Wiring.{Network}
 use Rattle.ck_store.specs.Store.{Store, first_store}
-use Rattle.ck_code.specs.Fitting.{IsFitStore}
 use Rattle.ck_code.proofs.Runs.{first_store_fits}
 use Rattle.machine_world.specs.Worlds.{plain_store, store_of}
 use Rattle.machine_world.proofs.Kept.{kept}
@@ -26,14 +25,5 @@ returns-clause-store c =
     }
 
 pub returns-clause-fits : goal.returns-clause-fits
-unfolding store_of words_from
 returns-clause-fits c = λ few.
-    let code = c.args.code.now in
-    let made : Network → Lcg → Store = λ graph words. plain_store (pos 0) c.in_ok-heap.heap.bodies
-    (all_meant c.from_vec.result) graph words 0 (length c.items-2.result.now + 1) in
-    let is : made (record { units = first_units; links = [] }) first_words
-    ≡ first_store (length code.mains) code.statics = search (rules, kept) in
-    let words : c.new-2.result ≡ first_words = c.new-2.ensures in
-    subst (IsFitStore code) (sym (ap (λ g. made g c.new-2.result) c.in_ok-graph.ensures
-    ∙ ap (made (record { units = first_units; links = [] })) words ∙ is))
-    (first_store_fits code (length code.mains) c.parts-parts.ensures.verified few)
+    first_store_fits c.args.code.now (length c.args.code.now.mains) c.parts-parts.ensures.verified few

@@ -10,20 +10,22 @@ use Rattle.machine_world.specs.Worlds.{store_of}
 use Rattle.machine_world.proofs.Located.{change_first, change_null}
 use Rattle.machine_world.proofs.Graphs.{unit_there, place_there, can_change, is_changed}
 use Rattle.machine_world.proofs.Places.{taken_put}
+use Rattle.machine_world.proofs.Stands.{of_some, to_each, does_so}
 use Rattle.machine_world.proofs.world.World.set_stages.Goals as goal
 
 pub node_of-requires-clause-unit : goal.node_of-requires-clause-unit
 node_of-requires-clause-unit c =
     unit_there _ _ c.self.view_is (ARef c.args.at.serial)
-    (change_first (staged c.args.attack c.args.decay c.args.sustain c.args.release) (store_of c.args.self.now) (ARef c.args.at.serial) c.requires)
+    (change_first (staged c.args.attack c.args.decay c.args.sustain c.args.release) (store_of c.args.self.now) (ARef c.args.at.serial) (of_some _ _ c.requires))
 
 pub returns-in_err-node-clause-null : goal.returns-in_err-node-clause-null
 returns-in_err-node-clause-null c =
     let p = err_from_is_err_and c.from_residual.result c.from_residual.ensures.1 in
     let trap = c.in_err-node.field-0.0 in
     rw (p.1, p.2)
+    (to_each _ _
     (change_null (staged c.args.attack c.args.decay c.args.sustain c.args.release) (store_of c.args.self.now) (ARef c.args.at.serial) trap
-    (place_there _ _ c.self.view_is (ARef c.args.at.serial) (Fails trap) (c.in_err-node.ensures {u = tt})))
+    (place_there _ _ c.self.view_is (ARef c.args.at.serial) (Fails trap) (c.in_err-node.ensures {u = tt}))))
 
 pub adsr-requires : goal.adsr-requires
 adsr-requires c =
@@ -33,18 +35,19 @@ adsr-requires c =
       to_z-of_z w64 c.args.release c.ranges.release,
     )
     (can_change _ _ c.self.view_is (ARef c.args.at.serial) c.in_ok-node.node
-    (staged c.args.attack c.args.decay c.args.sustain c.args.release) c.in_ok-node.ensures c.requires)
+    (staged c.args.attack c.args.decay c.args.sustain c.args.release) c.in_ok-node.ensures (of_some _ _ c.requires))
 
 pub returns-clause-staged : goal.returns-clause-staged
 returns-clause-staged c =
-    is_changed _ _ c.self.view_is (ARef c.args.at.serial) c.in_ok-node.node
+    does_so _ _ _ _
+    (is_changed _ _ c.self.view_is (ARef c.args.at.serial) c.in_ok-node.node
     (staged c.args.attack c.args.decay c.args.sustain c.args.release) c.in_ok-node.ensures
-    c.adsr.new.self c.requires
+    c.adsr.new.self (of_some _ _ c.requires)
     (rw (
       sym (to_z-of_z w64 c.args.attack c.ranges.attack),
       sym (to_z-of_z w64 c.args.decay c.ranges.decay),
       sym (to_z-of_z w64 c.args.release c.ranges.release),
-    ) c.adsr.ensures)
+    ) c.adsr.ensures))
 
 pub invariant_of-self : goal.invariant_of-self
 invariant_of-self c = (
@@ -56,7 +59,7 @@ invariant_of-self c = (
       (λ u g. let after : UnitState = record u { generator = g } in after)
       (can_change _ _ c.self.view_is (ARef c.args.at.serial) c.in_ok-node.node
       (staged c.args.attack c.args.decay c.args.sustain c.args.release) c.in_ok-node.ensures
-      c.requires)
+      (of_some _ _ c.requires))
       (rw (
         sym (to_z-of_z w64 c.args.attack c.ranges.attack),
         sym (to_z-of_z w64 c.args.decay c.ranges.decay),
