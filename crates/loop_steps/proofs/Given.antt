@@ -10,7 +10,7 @@ use Rattle.shred_state.specs.Frames.{Standing}
 use Rattle.machine_world.specs.Acts.{all_acts_meant}
 use Rattle.machine_world.specs.Shown.{Shown, shown, operands_of, with_operands}
 use Rattle.machine_world.specs.Steps.{effect_in, effect_of, state_of, Matches, Stays, IsSame}
-use Rattle.machine_world.specs.Worlds.{Parts, store_of}
+use Rattle.ck_store.specs.Store.{Store}
 use Rattle.machine_world.specs.declared.acts.Act.{Act}
 use Rattle.machine_world.specs.declared.course.Stop.TheVariants.{At as StopsAt, On as StopsOn, Ended, Trapped}
 use Rattle.machine_world.specs.declared.course.Then.{Then}
@@ -28,20 +28,20 @@ is_taken old mid v w taken top =
 module _ (old mid new : Standing) (v w : Datum) (result : Result Then Memory)
     (taken : shown old ≡ with_operands (shown mid) (w ∷ operands_of mid)) (is : v ≡ w) where
   pub follows_on :
-      ((code : CodeParts) (place : Place) (world : Parts) (acts : List Act) → IfOk result (λ then.
+      ((code : CodeParts) (place : Place) (store : Store) (acts : List Act) → IfOk result (λ then.
       Matches then (effect_in code Return place (with_operands (shown mid) (v ∷ operands_of mid))
-      (state_of mid world acts)) place new world acts))
-      → (code : CodeParts) (place : Place) (world : Parts) (acts : List Act) → IfOk result (λ then.
-      Matches then (effect_of code Return place old world acts) place new world acts)
-  follows_on follows code place world acts =
+      (state_of mid store acts)) place new store acts))
+      → (code : CodeParts) (place : Place) (store : Store) (acts : List Act) → IfOk result (λ then.
+      Matches then (effect_of code Return place old store acts) place new store acts)
+  follows_on follows code place store acts =
       let of : Shown → Effect = λ (s : Shown). effect_in code Return place s (record {
-        store = store_of world;
+        store = store;
         acts = all_acts_meant acts;
         turns = s.turns;
       }) in
-      subst (λ (e : Effect). IfOk result (λ then. Matches then e place new world acts))
+      subst (λ (e : Effect). IfOk result (λ then. Matches then e place new store acts))
       (ap of (ap (λ (d : Datum). with_operands (shown mid) (d ∷ operands_of mid)) is ∙ sym taken))
-      (follows code place world acts)
+      (follows code place store acts)
 
   is_same : IsSame mid new → IsSame old new
   is_same same = record {

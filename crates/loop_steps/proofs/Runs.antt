@@ -5,7 +5,7 @@ use Rattle.ck_values.specs.declared.operator.Op2.{Op2 as Operator}
 use Rattle.ck_values.specs.declared.trap.Place.{Place}
 use Rattle.ck_values.specs.Datum.{Datum}
 use Rattle.ck_store.specs.Operators.{binary}
-use Rattle.ck_store.specs.Store.{State, IsFitting}
+use Rattle.ck_store.specs.Store.{State, Store, IsFitting}
 use Rattle.ck_code.specs.declared.code.CodeParts.{CodeParts}
 use Rattle.ck_code.specs.declared.code.Fun.{Fun}
 use Rattle.ck_code.specs.declared.code.Step.{Step}
@@ -16,9 +16,7 @@ use Rattle.ck_code.specs.Potential.{potential}
 use Rattle.ck_code.specs.Verified.{IsVerified}
 use Rattle.ck_code.proofs.Ends.{leads_lower}
 use Rattle.shred_state.specs.Frames.{Standing}
-use Rattle.machine_world.specs.Acts.{all_acts_meant}
 use Rattle.machine_world.specs.Shown.{shown, frames_of}
-use Rattle.machine_world.specs.Worlds.{Parts, store_of}
 use Rattle.machine_world.specs.declared.acts.Act.{Act}
 use Rattle.machine_world.specs.Steps.{IsGood, effect_on, state_of}
 use Rattle.machine_world.specs.Steps.{of_two}
@@ -96,13 +94,13 @@ module _ (code : CodeParts) (n : ℕ) where
       ∙ ap suc (sym (begun_more b fs1 s1 (subst IsOver step over)))
 
   -- the effect of the instruction at the place
-  pub effect_is : (shred : Standing) (world : Parts) (acts : List Act) (step : Step)
+  pub effect_is : (shred : Standing) (store : Store) (acts : List Act) (step : Step)
       → n ≡ (shown shred).number → step_at code (shown shred).top.fun (shown shred).top.place ≡ Some step
-      → next_effect code n (frames_of (shown shred)) (state_of shred world acts)
-      ≡ effect_on code step shred world acts
-  effect_is shred world acts step same at =
-      ap (λ m. next_effect code m (frames_of (shown shred)) (state_of shred world acts)) same
-      ∙ ap (λ o. with_step o (λ step. effect_on code step shred world acts)) at
+      → next_effect code n (frames_of (shown shred)) (state_of shred store acts)
+      ≡ effect_on code step shred store acts
+  effect_is shred store acts step same at =
+      ap (λ m. next_effect code m (frames_of (shown shred)) (state_of shred store acts)) same
+      ∙ ap (λ o. with_step o (λ step. effect_on code step shred store acts)) at
 
   -- there is an instruction at the place
   pub with_good : (o : Option Step) (go : Step → Effect) → IsGood (with_step o go) → IsSome o
@@ -123,16 +121,14 @@ found_in code shred steps p at is_steps is_place found =
     ap (λ ss. slice_get ss (shown shred).top.place) is_steps
     ∙ ap (slice_get steps) (sym is_place) ∙ found
 
-pub next_in : (parts code : CodeParts) (shred : Standing) (world counting : Parts)
-    (acts : List Act) (at : Step) → parts ≡ code → store_of counting ≡ store_of world
+pub next_in : (parts code : CodeParts) (shred : Standing) (store : Store) (acts : List Act)
+    (at : Step) → parts ≡ code
     → step_at code (shown shred).top.fun (shown shred).top.place ≡ Some at
-    → next_effect code (shown shred).number (frames_of (shown shred)) (state_of shred world acts)
-    ≡ effect_on parts at shred counting acts
-next_in parts code shred world counting acts at is_code same found =
-    ap (λ store. next_effect code (shown shred).number (frames_of (shown shred))
-    (record { store = store; acts = all_acts_meant acts; turns = (shown shred).turns })) (sym same)
-    ∙ effect_is code (shown shred).number shred counting acts at refl found
-    ∙ ap (λ parts. effect_on parts at shred counting acts) (sym is_code)
+    → next_effect code (shown shred).number (frames_of (shown shred)) (state_of shred store acts)
+    ≡ effect_on parts at shred store acts
+next_in parts code shred store acts at is_code found =
+    effect_is code (shown shred).number shred store acts at refl found
+    ∙ ap (λ parts. effect_on parts at shred store acts) (sym is_code)
 
 -- a function in which there is an instruction is there
 pub some_fun : (o : Option Fun) (p : ℕ) → IsSome (slice_get (steps_of o) p) → IsSome o

@@ -47,6 +47,10 @@ abbrev pub holding : Shown → ℤ → (place : ℕ) → Shown
 holding s n place =
     record s { top = frame s.top.fun place s.top.locals (AnInt n ∷ s.top.operands) }
 
+-- the state with these turns
+abbrev pub state_with : State → (turns : ℕ) → State
+state_with s turns = record s { turns = turns }
+
 -- the slice from there on, and how many instructions it begins
 abbrev pub run_from : CodeParts → Shown → State → Halt
 run_from code s state = exec code s.number (enough code) (frames_of s) state

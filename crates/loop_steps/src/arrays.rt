@@ -3,11 +3,13 @@ ghost use Rattle.std.specs.Prelude.{◌≡◌, List, ◌-◌, ◌^◌, ◌<◌, 
 ghost use Rattle.ck_code.specs.declared.code.CodeParts.{CodeParts};
 ghost use Rattle.ck_code.specs.declared.instr.Instr.TheVariants.{Item, SetItem, Append};
 ghost use Rattle.ck_store.specs.Arrays.{item_of, with_item, appended};
-ghost use Rattle.ck_store.specs.Store.{IsFitting};
+ghost use Rattle.ck_store.specs.Store.{Store};
 ghost use Rattle.machine_world.specs.declared.acts.Act.{Act};
 ghost use Rattle.machine_world.specs.Shown.{operands_of, next_place};
-ghost use Rattle.machine_world.specs.Steps.{effect_of, of_two, of_three, Matches, Stays, IsSame};
-ghost use Rattle.machine_world.specs.Worlds.{store_of};
+ghost use Rattle.machine_world.specs.Steps.{effect_of, of_two, of_three, Matches, Follows};
+ghost use Rattle.machine_world.specs.Steps.{Stays, IsSame};
+ghost use Rattle.machine_world.specs.Tries.{CanDo};
+ghost use Rattle.machine_world.specs.Worlds.{StandsFor};
 
 use ck_values::Place;
 use fixed_point::Memory;
@@ -24,12 +26,13 @@ pub fn put_item(
     world: &World,
     place: Place,
 ) -> Result<Then, Memory>
-    requires operands { IsFitting (of_two (operands_of shred.old)
-        (item_of (store_of world.now).objects)) }
+    requires operands { CanDo world.now
+        (λ store. of_two (operands_of shred.old) (item_of store.objects)) }
     requires place { next_place shred.old < 2 ^ 64 - 1 }
-    ensures follows { (code : CodeParts) (acts : List Act) →
-        let effect = effect_of code Item place shred.old world.now acts in
-        IfOk result (λ then. Matches then effect place shred.new world.now acts) }
+    ensures follows { (code : CodeParts) (acts : List Act) (store : Store) →
+        StandsFor world.now store →
+        let effect = effect_of code Item place shred.old store acts in
+        IfOk result (λ then. Matches then effect place shred.new store acts) }
     ensures same { OnOk result (IsSame shred.old shred.new) }
     ensures stays { IfOk result (λ then. Stays then shred.old shred.new) }
 {
@@ -54,12 +57,13 @@ pub fn set_item(
     world: &mut World,
     place: Place,
 ) -> Result<Then, Memory>
-    requires operands { IsFitting (of_three (operands_of shred.old)
-        (λ v r i. with_item (store_of world.old) r i v)) }
+    requires operands { CanDo world.old
+        (λ store. of_three (operands_of shred.old) (λ v r i. with_item store r i v)) }
     requires place { next_place shred.old < 2 ^ 64 - 1 }
-    ensures follows { (code : CodeParts) (acts : List Act) →
-        let effect = effect_of code SetItem place shred.old world.old acts in
-        IfOk result (λ then. Matches then effect place shred.new world.new acts) }
+    ensures follows { (code : CodeParts) (acts : List Act) (store : Store) →
+        StandsFor world.old store →
+        let effect = effect_of code SetItem place shred.old store acts in
+        IfOk result (λ then. Follows then effect place shred.new world.new acts) }
     ensures same { OnOk result (IsSame shred.old shred.new) }
     ensures stays { IfOk result (λ then. Stays then shred.old shred.new) }
     ensures ran { OnOk result (world.new.ran ≡ world.old.ran) }
@@ -76,12 +80,13 @@ pub fn set_item(
 /// Takes the operand on the top to the end of the array beneath it, or stops by the trap.
 #[inline(always)]
 pub fn append(shred: &mut Shred, world: &mut World, place: Place) -> Result<Then, Memory>
-    requires operands { IsFitting (of_two (operands_of shred.old)
-        (appended (store_of world.old))) }
+    requires operands { CanDo world.old
+        (λ store. of_two (operands_of shred.old) (appended store)) }
     requires place { next_place shred.old < 2 ^ 64 - 1 }
-    ensures follows { (code : CodeParts) (acts : List Act) →
-        let effect = effect_of code Append place shred.old world.old acts in
-        IfOk result (λ then. Matches then effect place shred.new world.new acts) }
+    ensures follows { (code : CodeParts) (acts : List Act) (store : Store) →
+        StandsFor world.old store →
+        let effect = effect_of code Append place shred.old store acts in
+        IfOk result (λ then. Follows then effect place shred.new world.new acts) }
     ensures same { OnOk result (IsSame shred.old shred.new) }
     ensures stays { IfOk result (λ then. Stays then shred.old shred.new) }
     ensures ran { OnOk result (world.new.ran ≡ world.old.ran) }

@@ -8,7 +8,7 @@ ghost use Rattle.ck_code.specs.declared.instr.Instr.TheVariants.{Turn, Return, C
 ghost use Rattle.ck_code.specs.declared.instr.Instr.TheVariants.{WaitDur};
 ghost use Rattle.ck_code.specs.Machine.{frame, taken};
 ghost use Rattle.ck_store.specs.Steps.{pick, and_then, is_zero, wait_dur};
-ghost use Rattle.ck_store.specs.Store.{Gives, IsFitting};
+ghost use Rattle.ck_store.specs.Store.{Store, Gives, IsFitting};
 ghost use Rattle.ck_typed.specs.WellFormed.{FoundWhere};
 ghost use Rattle.machine_world.specs.declared.acts.Act.{Act};
 ghost use Rattle.machine_world.specs.declared.course.Then.TheVariants.{GoesOn};
@@ -16,7 +16,8 @@ ghost use Rattle.machine_world.specs.Shown.{shown, locals_of, operands_of, next_
 ghost use Rattle.machine_world.specs.Shown.{with_operands};
 ghost use Rattle.machine_world.specs.Steps.{effect_in, effect_of, state_of, of_top, IsGood};
 ghost use Rattle.machine_world.specs.Steps.{Matches, Stays, IsSame, IsAhead, joined};
-ghost use Rattle.machine_world.specs.Worlds.{Parts, store_of};
+ghost use Rattle.machine_world.specs.Tries.{HasStore, CanDo};
+ghost use Rattle.machine_world.specs.Worlds.{StandsFor};
 
 use ck_code::CodeParts;
 use ck_values::{Place, Trap, Value};
@@ -67,9 +68,9 @@ pub fn jump_if_zero(shred: &mut Shred, here: usize, to: usize) -> Then
 pub fn turn(shred: &mut Shred, here: usize, place: Place, stop: &mut Stop) -> Course
     requires here { here ≡ next_place shred.old }
     requires place { here < 2 ^ 64 - 1 }
-    ensures follows { (code : CodeParts) (world : Parts) (acts : List Act) →
-        let effect = effect_of code Turn place shred.old world acts in
-        Matches (joined result stop.new) effect place shred.new world acts }
+    ensures follows { (code : CodeParts) (store : Store) (acts : List Act) →
+        let effect = effect_of code Turn place shred.old store acts in
+        Matches (joined result stop.new) effect place shred.new store acts }
     ensures same { IsSame shred.old shred.new }
     ensures stays { Stays (joined result stop.new) shred.old shred.new }
     ensures ahead { IsAhead result shred.old shred.new }
@@ -86,9 +87,9 @@ pub fn turn(shred: &mut Shred, here: usize, place: Place, stop: &mut Stop) -> Co
 #[inline(always)]
 pub fn leave(shred: &mut Shred) -> Result<Then, Memory>
     requires { 0 < length (operands_of shred.old) }
-    ensures follows { (code : CodeParts) (place : Place) (world : Parts) (acts : List Act) →
-        let effect = effect_of code Return place shred.old world acts in
-        IfOk result (λ then. Matches then effect place shred.new world acts) }
+    ensures follows { (code : CodeParts) (place : Place) (store : Store) (acts : List Act) →
+        let effect = effect_of code Return place shred.old store acts in
+        IfOk result (λ then. Matches then effect place shred.new store acts) }
     ensures same { OnOk result (IsSame shred.old shred.new) }
     ensures stays { IfOk result (λ then. Stays then shred.old shred.new) }
 {
@@ -110,10 +111,10 @@ pub fn leave(shred: &mut Shred) -> Result<Then, Memory>
 // function ends the shred.
 #[inline(always)]
 fn give(shred: &mut Shred, v: Value) -> Result<Then, Memory>
-    ensures follows { (code : CodeParts) (place : Place) (world : Parts) (acts : List Act) →
+    ensures follows { (code : CodeParts) (place : Place) (store : Store) (acts : List Act) →
         let found = with_operands (shown shred.old) (meant v ∷ operands_of shred.old) in
-        let effect = effect_in code Return place found (state_of shred.old world acts) in
-        IfOk result (λ then. Matches then effect place shred.new world acts) }
+        let effect = effect_in code Return place found (state_of shred.old store acts) in
+        IfOk result (λ then. Matches then effect place shred.new store acts) }
     ensures same { OnOk result (IsSame shred.old shred.new) }
     ensures stays { IfOk result (λ then. Stays then shred.old shred.new) }
 {
@@ -127,12 +128,13 @@ fn give(shred: &mut Shred, v: Value) -> Result<Then, Memory>
 /// Waits for the dur on the top; it is a trap where that is for a time before now.
 #[inline(always)]
 pub fn wait(shred: &mut Shred, world: &World, place: Place) -> Then
-    requires operand { IsFitting
-        (of_top (operands_of shred.old) (λ d. wait_dur d (store_of world.now))) }
+    requires operand { CanDo world.now
+        (λ store. of_top (operands_of shred.old) (λ d. wait_dur d store)) }
     requires place { next_place shred.old < 2 ^ 64 - 1 }
-    ensures follows { (code : CodeParts) (acts : List Act) →
-        let effect = effect_of code WaitDur place shred.old world.now acts in
-        Matches result effect place shred.new world.now acts }
+    ensures follows { (code : CodeParts) (acts : List Act) (store : Store) →
+        StandsFor world.now store →
+        let effect = effect_of code WaitDur place shred.old store acts in
+        Matches result effect place shred.new store acts }
     ensures same { IsSame shred.old shred.new }
     ensures stays { Stays result shred.old shred.new }
 {
@@ -163,9 +165,9 @@ pub fn call(
         (λ fn. IsFitting (taken fn.params [] (operands_of shred.old))) }
     requires here { here ≡ next_place shred.old }
     requires place { next_place shred.old < 2 ^ 64 - 1 }
-    ensures follows { (world : Parts) (acts : List Act) →
-        let effect = effect_of code.now (Call fun) place shred.old world acts in
-        IfOk result (λ then. Matches then effect place shred.new world acts) }
+    ensures follows { (store : Store) (acts : List Act) →
+        let effect = effect_of code.now (Call fun) place shred.old store acts in
+        IfOk result (λ then. Matches then effect place shred.new store acts) }
     ensures same { OnOk result (IsSame shred.old shred.new) }
     ensures stays { IfOk result (λ then. Stays then shred.old shred.new) }
 {
@@ -200,13 +202,13 @@ pub fn send(
     n: usize,
     place: Place,
 ) -> Result<Then, Memory>
-    requires good { (acts : List Act) →
-        IsGood (effect_of code.now (Virtual slot n) place shred.old world.now acts) }
+    requires good { HasStore world.now (λ store. (acts : List Act) →
+        IsGood (effect_of code.now (Virtual slot n) place shred.old store acts)) }
     requires here { here ≡ next_place shred.old }
     requires place { next_place shred.old < 2 ^ 64 - 1 }
-    ensures follows { (acts : List Act) →
-        let effect = effect_of code.now (Virtual slot n) place shred.old world.now acts in
-        IfOk result (λ then. Matches then effect place shred.new world.now acts) }
+    ensures follows { (acts : List Act) (store : Store) → StandsFor world.now store →
+        let effect = effect_of code.now (Virtual slot n) place shred.old store acts in
+        IfOk result (λ then. Matches then effect place shred.new store acts) }
     ensures same { OnOk result (IsSame shred.old shred.new) }
     ensures stays { IfOk result (λ then. Stays then shred.old shred.new) }
 {

@@ -9,19 +9,19 @@ ghost use Rattle.ck_code.specs.declared.instr.Instr.TheVariants.{Op2 as OnTwo};
 ghost use Rattle.ck_code.specs.Machine.{steps_of};
 ghost use Rattle.ck_store.specs.Operators.{binary};
 ghost use Rattle.ck_store.specs.Steps.{is_zero, pick, local_of, with_local};
-ghost use Rattle.ck_store.specs.Store.{Gives, IsFitting};
+ghost use Rattle.ck_store.specs.Store.{State, Gives, IsFitting};
 ghost use Rattle.machine_world.specs.Shown.{shown, locals_of, operands_of, next_place};
 ghost use Rattle.machine_world.specs.Shown.{with_operands, with_locals};
-ghost use Rattle.machine_world.specs.Steps.{state_of, of_two, updated, IsSame};
+ghost use Rattle.machine_world.specs.Steps.{of_two, updated, IsSame};
 ghost use Rattle.loop_steps.specs.Ints.{CanPut, PutsInt, HasOperated, HasUpdated, holding};
-ghost use Rattle.loop_steps.specs.Ints.{run_from, HasGoneOn};
+ghost use Rattle.loop_steps.specs.Ints.{state_with, run_from, HasGoneOn};
 ghost use Rattle.loop_steps.specs.Runs.{IsOver};
 ghost use Rattle.machine_world.specs.Worlds.{counted};
 
 use ck_code::{Code, Instr, Step};
 use ck_values::{Op2, Value};
 use fixed_point::Memory;
-use machine_world::{Acts, World, frames, item_at, let_int_go, step_in, steps_at};
+use machine_world::{frames, item_at, let_int_go, step_in, steps_at};
 use shred_state::Shred;
 use value_ops::{int_units, of_ints};
 
@@ -134,8 +134,6 @@ pub fn go_on_with_int(
     code: &Code,
     first_steps: &[Step],
     shred: &mut Shred,
-    world: &World,
-    acts: &Acts,
     here: &mut usize,
     from: &mut usize,
     begun: &mut u64,
@@ -145,13 +143,14 @@ pub fn go_on_with_int(
         ≡ first_steps.now }
     requires here { here.old < 2 ^ 64 - 1 }
     requires from { from.old ≤ here.old }
-    requires over { IsOver (run_from code.now (holding (shown shred.old) first (here.old + 1))
-        (state_of shred.old world.now acts.now)) }
-    ensures gone { let line = here.old + 1 - from.old in
+    requires over { let first = holding (shown shred.old) first (here.old + 1) in
+        (s : State) × IsOver (run_from code.now first (state_with s (shown shred.old).turns)) }
+    ensures gone { (s : State) → let line = here.old + 1 - from.old in
         let first = holding (shown shred.old) first (here.old + 1) in
-        let state = state_of shred.old world.now acts.now in
-        OnOk result (HasGoneOn code.now begun.old line first state begun.new (here.new - from.new)
-        (shown shred.new) (state_of shred.new world.now acts.now)) }
+        let old = state_with s (shown shred.old).turns in
+        let new = state_with s (shown shred.new).turns in
+        IsOver (run_from code.now first old) → OnOk result (HasGoneOn code.now
+        begun.old line first old begun.new (here.new - from.new) (shown shred.new) new) }
     ensures here { OnOk result (here.new ≡ next_place shred.new) }
     ensures from { OnOk result (from.new ≤ here.new) }
     ensures fun { IfOk result (λ moved.

@@ -3,11 +3,13 @@ ghost use Rattle.std.specs.Prelude.{◌≡◌, List, ◌-◌, ◌^◌, ◌<◌, 
 ghost use Rattle.ck_code.specs.declared.code.CodeParts.{CodeParts};
 ghost use Rattle.ck_code.specs.declared.instr.Instr.TheVariants.{Field, SetField};
 ghost use Rattle.ck_store.specs.Objects.{field_of, with_field};
-ghost use Rattle.ck_store.specs.Store.{IsFitting};
+ghost use Rattle.ck_store.specs.Store.{Store};
 ghost use Rattle.machine_world.specs.declared.acts.Act.{Act};
 ghost use Rattle.machine_world.specs.Shown.{operands_of, next_place};
-ghost use Rattle.machine_world.specs.Steps.{effect_of, of_top, of_two, Matches, Stays, IsSame};
-ghost use Rattle.machine_world.specs.Worlds.{store_of};
+ghost use Rattle.machine_world.specs.Steps.{effect_of, of_top, of_two, Matches, Follows};
+ghost use Rattle.machine_world.specs.Steps.{Stays, IsSame};
+ghost use Rattle.machine_world.specs.Tries.{CanDo};
+ghost use Rattle.machine_world.specs.Worlds.{StandsFor};
 
 use ck_values::Place;
 use fixed_point::Memory;
@@ -24,12 +26,13 @@ pub fn put_field(
     i: u32,
     place: Place,
 ) -> Result<Then, Memory>
-    requires operand { IsFitting (of_top (operands_of shred.old)
-        (λ r. field_of (store_of world.now) r i)) }
+    requires operand { CanDo world.now
+        (λ store. of_top (operands_of shred.old) (λ r. field_of store r i)) }
     requires place { next_place shred.old < 2 ^ 64 - 1 }
-    ensures follows { (code : CodeParts) (acts : List Act) →
-        let effect = effect_of code (Field i) place shred.old world.now acts in
-        IfOk result (λ then. Matches then effect place shred.new world.now acts) }
+    ensures follows { (code : CodeParts) (acts : List Act) (store : Store) →
+        StandsFor world.now store →
+        let effect = effect_of code (Field i) place shred.old store acts in
+        IfOk result (λ then. Matches then effect place shred.new store acts) }
     ensures same { OnOk result (IsSame shred.old shred.new) }
     ensures stays { IfOk result (λ then. Stays then shred.old shred.new) }
 {
@@ -53,12 +56,13 @@ pub fn set_field(
     i: u32,
     place: Place,
 ) -> Result<Then, Memory>
-    requires operands { IsFitting (of_two (operands_of shred.old)
-        (λ v r. with_field (store_of world.old) r i v)) }
+    requires operands { CanDo world.old
+        (λ store. of_two (operands_of shred.old) (λ v r. with_field store r i v)) }
     requires place { next_place shred.old < 2 ^ 64 - 1 }
-    ensures follows { (code : CodeParts) (acts : List Act) →
-        let effect = effect_of code (SetField i) place shred.old world.old acts in
-        IfOk result (λ then. Matches then effect place shred.new world.new acts) }
+    ensures follows { (code : CodeParts) (acts : List Act) (store : Store) →
+        StandsFor world.old store →
+        let effect = effect_of code (SetField i) place shred.old store acts in
+        IfOk result (λ then. Follows then effect place shred.new world.new acts) }
     ensures same { OnOk result (IsSame shred.old shred.new) }
     ensures stays { IfOk result (λ then. Stays then shred.old shred.new) }
     ensures ran { OnOk result (world.new.ran ≡ world.old.ran) }

@@ -6,14 +6,13 @@ ghost use Rattle.ck_code.specs.declared.code.CodeParts.{CodeParts};
 ghost use Rattle.ck_code.specs.declared.instr.Instr.TheVariants.{Dup, Op2 as OnTwo};
 ghost use Rattle.ck_store.specs.Operators.{unary, binary};
 ghost use Rattle.ck_store.specs.Steps.{int_units};
-ghost use Rattle.ck_store.specs.Store.{IsFitting};
+ghost use Rattle.ck_store.specs.Store.{Store, IsFitting};
 ghost use Rattle.machine_world.specs.declared.acts.Act.{Act};
 ghost use Rattle.machine_world.specs.declared.course.Course.TheVariants.{Ahead};
 ghost use Rattle.machine_world.specs.declared.course.Then.TheVariants.{GoesOn};
 ghost use Rattle.machine_world.specs.Shown.{shown, locals_of, operands_of, next_place};
 ghost use Rattle.machine_world.specs.Steps.{effect_of, next_with, of_top, of_two, joined, IsPut};
 ghost use Rattle.machine_world.specs.Steps.{Matches, Stays, IsSame, IsAhead};
-ghost use Rattle.machine_world.specs.Worlds.{Parts};
 
 use ck_values::{Op1, Op2, Place, Value};
 use fixed_point::Memory;
@@ -29,9 +28,9 @@ use value_ops::{OpEnd, binary, int_units, of_floats, of_ints, unary};
 pub fn double(alloc: Global, shred: &mut Shred) -> Result<Then, Memory>
     requires operand { 0 < length (operands_of shred.old) }
     requires place { next_place shred.old < 2 ^ 64 - 1 }
-    ensures follows { (code : CodeParts) (place : Place) (world : Parts) (acts : List Act) →
-        let effect = effect_of code Dup place shred.old world acts in
-        IfOk result (λ then. Matches then effect place shred.new world acts) }
+    ensures follows { (code : CodeParts) (place : Place) (store : Store) (acts : List Act) →
+        let effect = effect_of code Dup place shred.old store acts in
+        IfOk result (λ then. Matches then effect place shred.new store acts) }
     ensures same { OnOk result (IsSame shred.old shred.new) }
     ensures stays { IfOk result (λ then. Stays then shred.old shred.new) }
 {
@@ -80,10 +79,10 @@ pub fn operate(
     requires operands { IsFitting (of_two (operands_of shred.old) (binary operator)) }
     requires here { here ≡ next_place shred.old }
     requires place { next_place shred.old < 2 ^ 64 - 1 }
-    ensures follows { (code : CodeParts) (world : Parts) (acts : List Act) →
-        let effect = effect_of code (OnTwo operator) place shred.old world acts in
+    ensures follows { (code : CodeParts) (store : Store) (acts : List Act) →
+        let effect = effect_of code (OnTwo operator) place shred.old store acts in
         IfOk result (λ course.
-        Matches (joined course stop.new) effect place shred.new world acts) }
+        Matches (joined course stop.new) effect place shred.new store acts) }
     ensures same { OnOk result (IsSame shred.old shred.new) }
     ensures stays { IfOk result (λ course. Stays (joined course stop.new) shred.old shred.new) }
     ensures ahead { IfOk result (λ course. IsAhead course shred.old shred.new) }
@@ -101,9 +100,9 @@ fn operated(shred: &mut Shred, here: usize, operator: Op2) -> bool
     requires operands { IsFitting (of_two (operands_of shred.old) (binary operator)) }
     requires here { here ≡ next_place shred.old }
     requires place { next_place shred.old < 2 ^ 64 - 1 }
-    ensures done { (code : CodeParts) (place : Place) (world : Parts) (acts : List Act) →
-        let effect = effect_of code (OnTwo operator) place shred.old world acts in
-        OnTrue result (Matches GoesOn effect place shred.new world acts) }
+    ensures done { (code : CodeParts) (place : Place) (store : Store) (acts : List Act) →
+        let effect = effect_of code (OnTwo operator) place shred.old store acts in
+        OnTrue result (Matches GoesOn effect place shred.new store acts) }
     ensures same { IsSame shred.old shred.new }
     ensures stays { Stays GoesOn shred.old shred.new }
     ensures ahead { OnTrue result (IsAhead Ahead shred.old shred.new) }
@@ -142,9 +141,9 @@ fn operate_apart(
 ) -> Result<Then, Memory>
     requires operands { IsFitting (of_two (operands_of shred.old) (binary operator)) }
     requires place { next_place shred.old < 2 ^ 64 - 1 }
-    ensures follows { (code : CodeParts) (world : Parts) (acts : List Act) →
-        let effect = effect_of code (OnTwo operator) place shred.old world acts in
-        IfOk result (λ then. Matches then effect place shred.new world acts) }
+    ensures follows { (code : CodeParts) (store : Store) (acts : List Act) →
+        let effect = effect_of code (OnTwo operator) place shred.old store acts in
+        IfOk result (λ then. Matches then effect place shred.new store acts) }
     ensures same { OnOk result (IsSame shred.old shred.new) }
     ensures stays { IfOk result (λ then. Stays then shred.old shred.new) }
 {
@@ -165,9 +164,9 @@ fn operate_on_any(
 ) -> Result<Then, Memory>
     requires operands { IsFitting (of_two (operands_of shred.old) (binary operator)) }
     requires place { next_place shred.old < 2 ^ 64 - 1 }
-    ensures follows { (code : CodeParts) (world : Parts) (acts : List Act) →
-        let effect = effect_of code (OnTwo operator) place shred.old world acts in
-        IfOk result (λ then. Matches then effect place shred.new world acts) }
+    ensures follows { (code : CodeParts) (store : Store) (acts : List Act) →
+        let effect = effect_of code (OnTwo operator) place shred.old store acts in
+        IfOk result (λ then. Matches then effect place shred.new store acts) }
     ensures same { OnOk result (IsSame shred.old shred.new) }
     ensures stays { IfOk result (λ then. Stays then shred.old shred.new) }
 {

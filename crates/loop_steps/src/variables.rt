@@ -3,13 +3,14 @@ ghost use Rattle.std.specs.Prelude.{◌≡◌, List, ◌-◌, ◌^◌, ◌<◌, 
 ghost use Rattle.ck_code.specs.declared.code.CodeParts.{CodeParts};
 ghost use Rattle.ck_code.specs.declared.instr.Instr.TheVariants.{OpLocal, OpStatic};
 ghost use Rattle.ck_store.specs.Steps.{local_of, with_local, static_of, with_static};
-ghost use Rattle.ck_store.specs.Store.{Gives, IsFitting};
+ghost use Rattle.ck_store.specs.Store.{Store, Gives, IsFitting};
 ghost use Rattle.machine_world.specs.declared.acts.Act.{Act};
 ghost use Rattle.machine_world.specs.declared.course.Course.TheVariants.{Ahead};
 ghost use Rattle.machine_world.specs.Shown.{shown, locals_of, operands_of, next_place};
 ghost use Rattle.machine_world.specs.Steps.{effect_of, next_with, of_top, updated, IsPut, Matches};
-ghost use Rattle.machine_world.specs.Steps.{Stays, IsSame, IsAhead, joined};
-ghost use Rattle.machine_world.specs.Worlds.{Parts, store_of};
+ghost use Rattle.machine_world.specs.Steps.{Follows, Stays, IsSame, IsAhead, joined};
+ghost use Rattle.machine_world.specs.Tries.{CanDo, Does};
+ghost use Rattle.machine_world.specs.Worlds.{StandsFor};
 
 use ck_values::{Op2, Place, Value};
 use fixed_point::Memory;
@@ -49,12 +50,12 @@ pub fn put_static(
     world: &World,
     i: u32,
 ) -> Result<Course, Memory>
-    requires variable { IsFitting (static_of (store_of world.now) i) }
+    requires variable { CanDo world.now (λ store. static_of store i) }
     requires here { here ≡ next_place shred.old }
     requires place { here < 2 ^ 64 - 1 }
     ensures ahead { IfOk result (λ course. course ≡ Ahead) }
-    ensures put { OnOk result
-        (IsPut (static_of (store_of world.now) i) shred.old (operands_of shred.old) shred.new) }
+    ensures put { OnOk result ((store : Store) → StandsFor world.now store →
+        IsPut (static_of store i) shred.old (operands_of shred.old) shred.new) }
 {
     if let Value::Int(n) = world.static_at(i) {
         let n = *n;
@@ -106,13 +107,14 @@ pub fn set_static(
     world: &mut World,
     i: u32,
 ) -> Result<Course, Memory>
-    requires variable { IsFitting
-        (of_top (operands_of shred.old) (with_static (store_of world.old) i)) }
+    requires variable { CanDo world.old
+        (λ store. of_top (operands_of shred.old) (with_static store i)) }
     requires here { here ≡ next_place shred.old }
     requires place { here < 2 ^ 64 - 1 }
     ensures ahead { IfOk result (λ course. course ≡ Ahead) }
-    ensures set { OnOk result (of_top (operands_of shred.old) (with_static (store_of world.old) i)
-        ≡ Gives (store_of world.new)) }
+    ensures set { OnOk result (Does world.old
+        (λ store. of_top (operands_of shred.old) (with_static store i)) (λ after. after)
+        world.new) }
     ensures ran { OnOk result (world.new.ran ≡ world.old.ran) }
     ensures kept { OnOk result
         (shown shred.new ≡ next_with shred.old (locals_of shred.old) (operands_of shred.old)) }
@@ -149,10 +151,10 @@ pub fn update_local(
         IsFitting (of_top (operands_of shred.old) update) }
     requires here { here ≡ next_place shred.old }
     requires place { next_place shred.old < 2 ^ 64 - 1 }
-    ensures follows { (code : CodeParts) (world : Parts) (acts : List Act) →
-        let effect = effect_of code (OpLocal i operator) place shred.old world acts in
+    ensures follows { (code : CodeParts) (store : Store) (acts : List Act) →
+        let effect = effect_of code (OpLocal i operator) place shred.old store acts in
         IfOk result (λ course.
-        Matches (joined course stop.new) effect place shred.new world acts) }
+        Matches (joined course stop.new) effect place shred.new store acts) }
     ensures same { OnOk result (IsSame shred.old shred.new) }
     ensures stays { IfOk result (λ course. Stays (joined course stop.new) shred.old shred.new) }
     ensures ahead { IfOk result (λ course. IsAhead course shred.old shred.new) }
@@ -192,9 +194,9 @@ fn update_any_local(
         let update = updated (local_of locals i) operator (with_local locals i) in
         IsFitting (of_top (operands_of shred.old) update) }
     requires place { next_place shred.old < 2 ^ 64 - 1 }
-    ensures follows { (code : CodeParts) (world : Parts) (acts : List Act) →
-        let effect = effect_of code (OpLocal i operator) place shred.old world acts in
-        IfOk result (λ then. Matches then effect place shred.new world acts) }
+    ensures follows { (code : CodeParts) (store : Store) (acts : List Act) →
+        let effect = effect_of code (OpLocal i operator) place shred.old store acts in
+        IfOk result (λ then. Matches then effect place shred.new store acts) }
     ensures same { OnOk result (IsSame shred.old shred.new) }
     ensures stays { IfOk result (λ then. Stays then shred.old shred.new) }
 {
@@ -220,13 +222,13 @@ pub fn update_static(
     operator: Op2,
     place: Place,
 ) -> Result<Then, Memory>
-    requires operand { let store = store_of world.old in
-        let update = updated (static_of store i) operator (with_static store i) in
-        IsFitting (of_top (operands_of shred.old) update) }
+    requires operand { CanDo world.old (λ store. of_top (operands_of shred.old)
+        (updated (static_of store i) operator (with_static store i))) }
     requires place { next_place shred.old < 2 ^ 64 - 1 }
-    ensures follows { (code : CodeParts) (acts : List Act) →
-        let effect = effect_of code (OpStatic i operator) place shred.old world.old acts in
-        IfOk result (λ then. Matches then effect place shred.new world.new acts) }
+    ensures follows { (code : CodeParts) (acts : List Act) (store : Store) →
+        StandsFor world.old store →
+        let effect = effect_of code (OpStatic i operator) place shred.old store acts in
+        IfOk result (λ then. Follows then effect place shred.new world.new acts) }
     ensures same { OnOk result (IsSame shred.old shred.new) }
     ensures stays { IfOk result (λ then. Stays then shred.old shred.new) }
     ensures ran { OnOk result (world.new.ran ≡ world.old.ran) }
@@ -260,13 +262,13 @@ fn update_any_static(
     operator: Op2,
     place: Place,
 ) -> Result<Then, Memory>
-    requires operand { let store = store_of world.old in
-        let update = updated (static_of store i) operator (with_static store i) in
-        IsFitting (of_top (operands_of shred.old) update) }
+    requires operand { CanDo world.old (λ store. of_top (operands_of shred.old)
+        (updated (static_of store i) operator (with_static store i))) }
     requires place { next_place shred.old < 2 ^ 64 - 1 }
-    ensures follows { (code : CodeParts) (acts : List Act) →
-        let effect = effect_of code (OpStatic i operator) place shred.old world.old acts in
-        IfOk result (λ then. Matches then effect place shred.new world.new acts) }
+    ensures follows { (code : CodeParts) (acts : List Act) (store : Store) →
+        StandsFor world.old store →
+        let effect = effect_of code (OpStatic i operator) place shred.old store acts in
+        IfOk result (λ then. Follows then effect place shred.new world.new acts) }
     ensures same { OnOk result (IsSame shred.old shred.new) }
     ensures stays { IfOk result (λ then. Stays then shred.old shred.new) }
     ensures ran { OnOk result (world.new.ran ≡ world.old.ran) }

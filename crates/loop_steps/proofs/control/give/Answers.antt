@@ -4,5 +4,5 @@ use Rattle.ck_values.specs.Datum.{meant}
 use Rattle.loop_steps.proofs.control.give.Goals as goal
 
 pub returns-then-not-leave-clause-follows : goal.returns-then-not-leave-clause-follows
-returns-then-not-leave-clause-follows c = λ code place world acts.
+returns-then-not-leave-clause-follows c = λ code place store acts.
     inl (meant c.args.v, grind (arith, common_steps))

@@ -6,69 +6,76 @@ use Rattle.machine_world.specs.Steps.{Matches, state_of}
 use Rattle.machine_world.specs.Shown.{shown, operands_of}
 use Rattle.machine_world.proofs.Parts.{method_refers, refers}
 use Rattle.machine_world.proofs.Sends.{calling, sends_some, sends_within, sends_fits, sends_breaks, sends_begin}
+use Rattle.machine_world.proofs.Stands.{each_so}
 use Rattle.loop_steps.proofs.control.send.Goals as goal
 
 pub overflow_sub-n : goal.overflow_sub-n
 overflow_sub-n c =
-    let s = state_of c.args.shred.now c.args.world.now [] in
+    let s = state_of c.args.shred.now c.requires.good.store [] in
     sends_some c.args.code.now c.args.place c.args.slot (operands_of c.args.shred.now) s
-    (calling c.args.place (shown c.args.shred.now) s) c.args.n (c.requires.good [])
+    (calling c.args.place (shown c.args.shred.now) s) c.args.n (c.requires.good.so [])
 
 pub operand-requires : goal.operand-requires
 operand-requires c =
     let ops = operands_of c.args.shred.now in
-    let s = state_of c.args.shred.now c.args.world.now [] in
+    let s = state_of c.args.shred.now c.requires.good.store [] in
     let calls = calling c.args.place (shown c.args.shred.now) s in
-    let some = sends_some c.args.code.now c.args.place c.args.slot ops s calls c.args.n (c.requires.good []) in
-    let within = sends_within c.args.code.now c.args.place c.args.slot ops s calls c.args.n (c.requires.good []) in
+    let some = sends_some c.args.code.now c.args.place c.args.slot ops s calls c.args.n (c.requires.good.so []) in
+    let within = sends_within c.args.code.now c.args.place c.args.slot ops s calls c.args.n (c.requires.good.so []) in
     omega (arith, some, within)
 
 pub reference-receiver-requires : goal.reference-receiver-requires
 reference-receiver-requires c =
     let code = c.args.code.now in
-    let s = state_of c.args.shred.now c.args.world.now [] in
+    let s = state_of c.args.shred.now c.requires.good.store [] in
     let r = meant c.operand.result.now in
     refers s.store.objects r (method_refers code.classes s.store.objects r c.args.slot
     (sends_fits code c.args.place c.args.slot (operands_of c.args.shred.now) s
-    (calling c.args.place (shown c.args.shred.now) s) c.args.n r c.operand.ensures (c.requires.good [])))
+    (calling c.args.place (shown c.args.shred.now) s) c.args.n r c.operand.ensures (c.requires.good.so [])))
 
 pub method-requires : goal.method-requires
 method-requires c =
     let code = c.args.code.now in
-    let s = state_of c.args.shred.now c.args.world.now [] in
+    let s = state_of c.args.shred.now c.requires.good.store [] in
     let r = meant c.operand.result.now in
-    subst (λ r. IsFitting (method_of code.classes s.store.objects r c.args.slot)) c.reference-receiver.ensures
-    (sends_fits code c.args.place c.args.slot (operands_of c.args.shred.now) s
-    (calling c.args.place (shown c.args.shred.now) s) c.args.n r c.operand.ensures (c.requires.good []))
+    record {
+      store = s.store;
+      stands = c.requires.good.stands;
+      so = subst (λ r. IsFitting (method_of code.classes s.store.objects r c.args.slot)) c.reference-receiver.ensures
+          (sends_fits code c.args.place c.args.slot (operands_of c.args.shred.now) s
+          (calling c.args.place (shown c.args.shred.now) s) c.args.n r c.operand.ensures (c.requires.good.so []));
+    }
 
 pub call-requires-clause-arguments : goal.call-requires-clause-arguments
 call-requires-clause-arguments c =
     let code = c.args.code.now in
-    let s = state_of c.args.shred.now c.args.world.now [] in
+    let s = state_of c.args.shred.now c.requires.good.store [] in
     let r = meant c.operand.result.now in
     let found = subst (λ r. method_of code.classes s.store.objects r c.args.slot ≡ Gives c.in-Ok.fun)
-    (sym c.reference-receiver.ensures) c.in-Ok.ensures.found in
+    (sym c.reference-receiver.ensures) (c.in-Ok.ensures.found s.store c.requires.good.stands) in
     (sends_begin code c.args.place c.args.slot (operands_of c.args.shred.now) s
-    (calling c.args.place (shown c.args.shred.now) s) c.args.n r c.in-Ok.fun c.operand.ensures (c.requires.good []) found).arguments
+    (calling c.args.place (shown c.args.shred.now) s) c.args.n r c.in-Ok.fun c.operand.ensures (c.requires.good.so []) found).arguments
 
 pub returns-in-Ok-clause-follows : goal.returns-in-Ok-clause-follows
-returns-in-Ok-clause-follows c = λ acts.
+returns-in-Ok-clause-follows c = λ acts store stands.
     let code = c.args.code.now in
-    let s = state_of c.args.shred.now c.args.world.now acts in
+    let s = state_of c.args.shred.now store acts in
+    let good = each_so _ _ c.requires.good store stands acts in
     let r = meant c.operand.result.now in
     let found = subst (λ r. method_of code.classes s.store.objects r c.args.slot ≡ Gives c.in-Ok.fun)
-    (sym c.reference-receiver.ensures) c.in-Ok.ensures.found in
+    (sym c.reference-receiver.ensures) (c.in-Ok.ensures.found store stands) in
     let same = (sends_begin code c.args.place c.args.slot (operands_of c.args.shred.now) s
-    (calling c.args.place (shown c.args.shred.now) s) c.args.n r c.in-Ok.fun c.operand.ensures (c.requires.good acts) found).same in
+    (calling c.args.place (shown c.args.shred.now) s) c.args.n r c.in-Ok.fun c.operand.ensures good found).same in
     subst (λ e. IfOk c.call.result (λ then. Matches then e c.args.place c.call.new.shred
-    c.args.world.now acts)) (sym same) (c.call.ensures.follows c.args.world.now acts)
+    store acts)) (sym same) (c.call.ensures.follows store acts)
 
 pub returns-in-Err-clause-follows : goal.returns-in-Err-clause-follows
-returns-in-Err-clause-follows c = λ acts.
+returns-in-Err-clause-follows c = λ acts store stands.
     let code = c.args.code.now in
-    let s = state_of c.args.shred.now c.args.world.now acts in
+    let s = state_of c.args.shred.now store acts in
+    let good = each_so _ _ c.requires.good store stands acts in
     let r = meant c.operand.result.now in
     let null = subst (λ r. method_of code.classes s.store.objects r c.args.slot ≡ Fails c.in-Err.trap)
-    (sym c.reference-receiver.ensures) c.in-Err.ensures.null in
+    (sym c.reference-receiver.ensures) (c.in-Err.ensures.null store stands) in
     sends_breaks code c.args.place c.args.slot (operands_of c.args.shred.now) s
-    (calling c.args.place (shown c.args.shred.now) s) c.args.n r c.in-Err.trap c.operand.ensures (c.requires.good acts) null
+    (calling c.args.place (shown c.args.shred.now) s) c.args.n r c.in-Err.trap c.operand.ensures good null

@@ -1,6 +1,6 @@
 use mir.Syntax.{w64}
 use mir.Val.{to_z, of_z}
-use Rattle.std.proofs.Common.{◌≡◌, ◌+◌, ◌-◌, ℕ, ℤ, Bool, true, false, ◌∷◌, Some, refl, sym, ap, ◌∙◌, subst, arith, rules, slice_get}
+use Rattle.std.proofs.Common.{◌≡◌, ◌+◌, ◌-◌, ℕ, ℤ, Bool, true, false, ◌∷◌, Some, IsSome, refl, sym, ap, ◌∙◌, subst, arith, rules, slice_get}
 use Rattle.std.proofs.lemmas.Int.{to_z-of_z}
 use Rattle.std.specs.Bool.{OnFalse}
 use Rattle.ck_values.specs.declared.operator.Op2.{Op2 as Operator}
@@ -10,16 +10,16 @@ use Rattle.ck_store.specs.Steps.{is_zero, pick, with_local, int_units}
 use Rattle.ck_store.specs.Store.{State, Gives}
 use Rattle.ck_code.specs.declared.instr.Instr.TheVariants.{Op2, JumpZero, Return, SetLocal, OpLocal, UnitInt}
 use Rattle.ck_code.specs.declared.code.Step.{Step}
-use Rattle.ck_code.specs.Machine.{Next, step_at, steps_of}
-use Rattle.machine_world.specs.Acts.{all_acts_meant}
-use Rattle.loop_steps.specs.Ints.{holding, PutsInt, HasUpdated, HasGoneOn}
+use Rattle.ck_code.specs.Machine.{Next, step_at, steps_of, enough}
+use Rattle.loop_steps.specs.Ints.{holding, PutsInt, HasUpdated, HasGoneOn, run_from, state_with}
+use Rattle.loop_steps.specs.Runs.{IsOver}
 use Rattle.machine_world.specs.Shown.{Shown, shown, frames_of, with_operands, with_locals, at_place}
 use Rattle.machine_world.specs.Worlds.{counted}
-use Rattle.machine_world.specs.Steps.{IsGood, IsRunnable, effect_in, state_of}
-use Rattle.machine_world.specs.Worlds.{store_of}
+use Rattle.machine_world.specs.Steps.{IsGood, IsRunnable, effect_in}
+use Rattle.loop_steps.proofs.Runs.{good, with_good}
 use Rattle.loop_steps.proofs.OnInts.{LeadsTo, one_on, one_lower, counted_on, effect_there, good_there, has_function}
 use Rattle.loop_steps.proofs.OnInts.{puts, operates, jumps, returns_to, sets, updates, counts_units, drops}
-use Rattle.loop_steps.proofs.OnInts.{local_fits, sum_fits, units_fit, operands_fit}
+use Rattle.loop_steps.proofs.OnInts.{can_put, local_fits, sum_fits, units_fit, operands_fit}
 use Rattle.machine_world.proofs.Runnable.{runnable_at}
 use Rattle.loop_steps.proofs.ints.go_on_with_int.Goals.{After-step_in-at, In-Some, In-Some-operated_at, In-Some-added, In_ok-push-in-Int, After-counted_to-in-Return}
 use Rattle.loop_steps.proofs.ints.go_on_with_int.Goals as goal
@@ -35,15 +35,8 @@ held c = to_z w64 c.line.top-bits
 abbrev now_of : After-step_in-at → Shown
 now_of c = holding (shown c.line.shred) (held c) c.line.here
 
-abbrev state_with : After-step_in-at → (turns : ℕ) → State
-state_with c turns = record {
-  store = store_of c.args.world.now;
-  acts = all_acts_meant c.args.acts.now;
-  turns = turns;
-}
-
-abbrev state_now : After-step_in-at → State
-state_now c = state_with c (shown c.line.shred).turns
+abbrev state_now : After-step_in-at → State → State
+state_now c t = state_with t (shown c.line.shred).turns
 
 -- the instruction that was found is the next one
 there : (c : After-step_in-at)
@@ -52,75 +45,90 @@ there c =
     ap (λ steps. slice_get steps c.line.here) c.line.invariant.steps ∙ c.step_in-at.ensures.at
 
 -- what it leads to
-leads : (c : After-step_in-at) (new : Shown) → new.number ≡ (shown c.line.shred).number
+leads : (c : After-step_in-at) (t : State) (new : Shown) → new.number ≡ (shown c.line.shred).number
     → effect_in c.args.code.now c.step_in-at.result.now.instr c.step_in-at.result.now.place
-    (now_of c) (state_now c)
-    ≡ Next (frames_of new) (state_with c new.turns)
-    → LeadsTo c.args.code.now (now_of c) (state_now c) new (state_with c new.turns)
-leads c new number effect = record {
+    (now_of c) (state_now c t)
+    ≡ Next (frames_of new) (state_with t new.turns)
+    → LeadsTo c.args.code.now (now_of c) (state_now c t) new (state_with t new.turns)
+leads c t new number effect = record {
   number = number;
-  next = effect_there c.args.code.now (now_of c) (state_now c) c.step_in-at.result.now (there c) ∙ effect;
+  next = effect_there c.args.code.now (now_of c) (state_now c t) c.step_in-at.result.now (there c) ∙ effect;
 }
 
 -- the line with one instruction more, and with two
-abbrev Gone : After-step_in-at → (ran line : ℕ) → Shown → State → Type 0
-Gone c ran line new state =
+abbrev Gone : After-step_in-at → State → (ran line : ℕ) → Shown → State → Type 0
+Gone c t ran line new state =
     HasGoneOn c.args.code.now c.args.begun.now (c.args.here.now + 1 - c.args.from.now) (first_of c)
-    (state_with c (shown c.args.shred.now).turns) ran line new state
+    (state_with t (shown c.args.shred.now).turns) ran line new state
 
-gone_on : (c : After-step_in-at) (new : Shown)
-    → LeadsTo c.args.code.now (now_of c) (state_now c) new (state_with c new.turns)
-    → Gone c c.line.begun (c.line.here + 1 - c.line.from) new (state_with c new.turns)
-gone_on c new leads =
-    one_on c.args.code.now c.parts-parts.ensures.verified _ _ _ _ _ _ _ (now_of c) new (state_now c) _
-    (omega (arith, c.line.invariant.from)) c.line.invariant.gone leads
+-- where the slice from the first one on is over
+abbrev Over : After-step_in-at → State → Type 0
+Over c t =
+    IsOver (run_from c.args.code.now (first_of c) (state_with t (shown c.args.shred.now).turns))
+
+over_kept : (c : After-step_in-at) (t : State)
+    → IsOver (run_from c.args.code.now
+    (holding (shown c.args.shred.now) c.args.first (c.args.here.now + 1))
+    (state_with t (shown c.args.shred.now).turns)) → Over c t
+over_kept c t over =
+    subst (λ m. IsOver (run_from c.args.code.now
+    (holding (shown c.args.shred.now) m (c.args.here.now + 1))
+    (state_with t (shown c.args.shred.now).turns)))
+    (sym (to_z-of_z w64 c.args.first (search rules))) over
+
+gone_on : (c : After-step_in-at) (t : State) → Over c t → (new : Shown)
+    → LeadsTo c.args.code.now (now_of c) (state_now c t) new (state_with t new.turns)
+    → Gone c t c.line.begun (c.line.here + 1 - c.line.from) new (state_with t new.turns)
+gone_on c t over new leads =
+    one_on c.args.code.now c.parts-parts.ensures.verified _ _ _ _ _ _ _ (now_of c) new (state_now c t) _
+    (omega (arith, c.line.invariant.from)) (c.line.invariant.gone t over) leads
 
 -- an int as it is kept
 abbrev kept : ℤ → ℤ
 kept n = to_z w64 (of_z w64 n)
 
 -- where a jump goes
-jumped_on : (c : After-step_in-at) (new : Shown) (to : ℕ) (zero : Bool)
+jumped_on : (c : After-step_in-at) (t : State) (new : Shown) (to : ℕ) (zero : Bool)
     → c.step_in-at.result.now.instr ≡ JumpZero to → is_zero (AnInt (held c)) ≡ Gives zero
     → new ≡ at_place (shown c.line.shred) (pick zero to (c.line.here + 1))
-    → LeadsTo c.args.code.now (now_of c) (state_now c) new (state_with c new.turns)
-jumped_on c new to zero is found goes =
+    → LeadsTo c.args.code.now (now_of c) (state_now c t) new (state_with t new.turns)
+jumped_on c t new to zero is found goes =
     let code = c.args.code.now in
     let place = c.step_in-at.result.now.place in
     let s = shown c.line.shred in
-    leads c new (ap (λ (s : Shown). s.number) goes)
-    (ap (λ instr. effect_in code instr place (now_of c) (state_now c)) is
-    ∙ jumps code to place s (state_now c) (held c) c.line.here zero found
-    ∙ ap (λ (s : Shown). Next (frames_of s) (state_with c s.turns)) (sym goes))
+    leads c t new (ap (λ (s : Shown). s.number) goes)
+    (ap (λ instr. effect_in code instr place (now_of c) (state_now c t)) is
+    ∙ jumps code to place s (state_now c t) (held c) c.line.here zero found
+    ∙ ap (λ (s : Shown). Next (frames_of s) (state_with t s.turns)) (sym goes))
 
 -- where a return goes
-returned_on : (c : After-step_in-at) (new : Shown) → c.step_in-at.result.now.instr ≡ Return
+returned_on : (c : After-step_in-at) (t : State) (new : Shown) → c.step_in-at.result.now.instr ≡ Return
     → (shown c.line.shred).below ≡ new.top ∷ new.below
     → new ≡ record (shown c.line.shred) { top = new.top; below = new.below }
-    → LeadsTo c.args.code.now (now_of c) (state_now c) (holding new (held c) new.top.place)
-    (state_with c new.turns)
-returned_on c new is left kept =
+    → LeadsTo c.args.code.now (now_of c) (state_now c t) (holding new (held c) new.top.place)
+    (state_with t new.turns)
+returned_on c t new is left kept =
     let code = c.args.code.now in
     let place = c.step_in-at.result.now.place in
-    leads c (holding new (held c) new.top.place) (ap (λ (s : Shown). s.number) kept)
-    (ap (λ instr. effect_in code instr place (now_of c) (state_now c)) is
-    ∙ returns_to code place (shown c.line.shred) new (state_now c) (held c) c.line.here left
-    ∙ ap (λ turns. Next (frames_of (holding new (held c) new.top.place)) (state_with c turns))
+    leads c t (holding new (held c) new.top.place) (ap (λ (s : Shown). s.number) kept)
+    (ap (λ instr. effect_in code instr place (now_of c) (state_now c t)) is
+    ∙ returns_to code place (shown c.line.shred) new (state_now c t) (held c) c.line.here left
+    ∙ ap (λ turns. Next (frames_of (holding new (held c) new.top.place)) (state_with t turns))
     (sym (ap (λ (s : Shown). s.turns) kept)))
 
 pub returns-in-JumpZero-clause-gone : goal.returns-in-JumpZero-clause-gone
-returns-in-JumpZero-clause-gone c =
+returns-in-JumpZero-clause-gone c = λ t over.
     let here = (goal.at.returns-in-JumpZero-clause-gone c).After-step_in-at in
     let s = shown c.line.shred in
     let goes : shown c.jump.new.shred ≡ at_place s (pick c.is_zero.result c.in-JumpZero.to (c.line.here + 1)) =
     c.jump.ensures ∙ ap (at_place s) c.place_where.ensures in
     subst (λ m. HasGoneOn c.args.code.now c.args.begun.now (c.args.here.now + 1 - c.args.from.now)
     (holding (shown c.args.shred.now) m (c.args.here.now + 1))
-    (state_of c.args.shred.now c.args.world.now c.args.acts.now)
+    (state_with t (shown c.args.shred.now).turns)
     c.counted_to.result (c.place_where.result - c.place_where.result) (shown c.jump.new.shred)
-    (state_of c.jump.new.shred c.args.world.now c.args.acts.now)) (to_z-of_z w64 c.args.first (search rules))
+    (state_with t (shown c.jump.new.shred).turns)) (to_z-of_z w64 c.args.first (search rules))
     (counted_on c.args.code.now c.parts-parts.ensures.verified _ _ _ _ _ _ _ _ _ _ (omega (arith, c.line.invariant.from, c.counted_to.ensures))
-    (gone_on here _ (jumped_on here _ c.in-JumpZero.to c.is_zero.result c.in-JumpZero.is
+    (gone_on here t (over_kept here t over) _ (jumped_on here t _ c.in-JumpZero.to c.is_zero.result c.in-JumpZero.is
     c.is_zero.ensures goes)))
 
 -- the function that runs is still the first one
@@ -129,39 +137,40 @@ same_fun f g h true is before = tt
 same_fun f g h false is before = is ∙ before
 
 -- what the operator leaves, once it has taken the operand beneath
-operated_on : (c : After-step_in-at) (new : Shown) (operator : Operator) (a n m : ℤ)
+operated_on : (c : After-step_in-at) (t : State) (new : Shown) (operator : Operator) (a n m : ℤ)
     → c.step_in-at.result.now.instr ≡ Op2 operator
     → shown c.line.shred ≡ with_operands new (AnInt a ∷ new.top.operands)
     → binary operator (AnInt a) (AnInt (held c)) ≡ Gives (AnInt n) → n ≡ m
-    → LeadsTo c.args.code.now (now_of c) (state_now c) (holding new m (c.line.here + 1))
-    (state_with c new.turns)
-operated_on c new operator a n m is old gives same =
+    → LeadsTo c.args.code.now (now_of c) (state_now c t) (holding new m (c.line.here + 1))
+    (state_with t new.turns)
+operated_on c t new operator a n m is old gives same =
     let code = c.args.code.now in
     let place = c.step_in-at.result.now.place in
     let was = with_operands new (AnInt a ∷ new.top.operands) in
-    leads c (holding new m (c.line.here + 1)) (sym (ap (λ (s : Shown). s.number) old))
-    (ap (λ instr. effect_in code instr place (now_of c) (state_now c)) is
+    leads c t (holding new m (c.line.here + 1)) (sym (ap (λ (s : Shown). s.number) old))
+    (ap (λ instr. effect_in code instr place (now_of c) (state_now c t)) is
     ∙ ap (λ (s : Shown). effect_in code (Op2 operator) place (holding s (held c) c.line.here)
-    (state_with c s.turns)) old
-    ∙ operates code operator place new (state_with c was.turns) a (held c) m c.line.here
+    (state_with t s.turns)) old
+    ∙ operates code operator place new (state_with t was.turns) a (held c) m c.line.here
     (gives ∙ ap (λ n. Gives (AnInt n)) same))
 
 -- the same of the context that has it
-taken_on : (c : In-Some) → let here = (goal.at.In-Some c).After-step_in-at in
-    LeadsTo c.args.code.now (now_of here) (state_now here)
+taken_on : (c : In-Some) (t : State) → let here = (goal.at.In-Some c).After-step_in-at in
+    LeadsTo c.args.code.now (now_of here) (state_now here t)
     (holding (shown c.operated.new.shred) (kept c.in-Some.n) (c.line.here + 1))
-    (state_of c.operated.new.shred c.args.world.now c.args.acts.now)
-taken_on c =
+    (state_with t (shown c.operated.new.shred).turns)
+taken_on c t =
     let taken = c.in-Some.ensures.taken in
-    operated_on (goal.at.In-Some c).After-step_in-at (shown c.operated.new.shred) c.in-Op2.operator
+    operated_on (goal.at.In-Some c).After-step_in-at t (shown c.operated.new.shred) c.in-Op2.operator
     taken.0 _ _ c.in-Op2.is taken.1 taken.2 (sym (to_z-of_z w64 c.in-Some.n (search rules)))
 
 pub line-smaller-in-Op2-1 : goal.line-smaller-in-Op2-1
 line-smaller-in-Op2-1 c =
+    let t = c.line.invariant.over.0 in
     omega (
       arith,
-      one_lower c.args.code.now _ _ _ _ c.line.invariant.gone.over
-          (taken_on (goal.at.line-smaller-in-Op2-1 c).In-Some) c.parts-parts.ensures.verified,
+      one_lower c.args.code.now _ _ _ _ (c.line.invariant.gone t c.line.invariant.over.1).over
+          (taken_on (goal.at.line-smaller-in-Op2-1 c).In-Some t) c.parts-parts.ensures.verified,
     )
 
 pub line-preserved-in-Op2-1 : goal.line-preserved-in-Op2-1
@@ -173,7 +182,8 @@ line-preserved-in-Op2-1 c =
       steps = ap (λ (s : Shown). steps_of (slice_get c.args.code.now.funs s.top.fun)) (sym taken.1)
           ∙ before.steps;
       from = omega (arith, before.from);
-      gone = gone_on (goal.at.In-Some here).After-step_in-at _ (taken_on here);
+      over = c.line.invariant.over;
+      gone = λ t over. gone_on (goal.at.In-Some here).After-step_in-at t over _ (taken_on here t);
       fun = same_fun _ _ (shown c.args.shred.now).top.fun c.line.moved (ap (λ (s : Shown). s.top.fun) (sym taken.1)) before.fun;
       same = record {
         number = ap (λ (s : Shown). s.number) (sym taken.1) ∙ before.same.number;
@@ -183,14 +193,14 @@ line-preserved-in-Op2-1 c =
     }
 
 -- the int that is put
-put_on : (c : After-step_in-at) (n m : ℤ)
+put_on : (c : After-step_in-at) (t : State) (n m : ℤ)
     → PutsInt c.step_in-at.result.now.instr (shown c.line.shred).top.locals n → n ≡ m
-    → LeadsTo c.args.code.now (now_of c) (state_now c) (holding (now_of c) m (c.line.here + 1))
-    (state_now c)
-put_on c n m is same =
+    → LeadsTo c.args.code.now (now_of c) (state_now c t) (holding (now_of c) m (c.line.here + 1))
+    (state_now c t)
+put_on c t n m is same =
     let at = c.step_in-at.result.now in
-    leads c (holding (now_of c) m (c.line.here + 1)) refl
-    (puts c.args.code.now at.instr at.place (now_of c) (state_now c) m
+    leads c t (holding (now_of c) m (c.line.here + 1)) refl
+    (puts c.args.code.now at.instr at.place (now_of c) (state_now c t) m
     (subst (PutsInt at.instr (shown c.line.shred).top.locals) same is))
 
 -- the instruction behind it
@@ -202,16 +212,17 @@ behind_it c at found =
 
 pub operated_at-requires : goal.operated_at-requires
 operated_at-requires c = λ at operator found is.
+    let t = c.line.invariant.over.0 in
     let here = (goal.at.operated_at-requires c).After-step_in-at in
     let code = c.args.code.now in
     let next = c.in-Some-int_put.next in
     let same : next ≡ kept next = sym (to_z-of_z w64 next (search rules)) in
-    let put = gone_on here (holding (now_of here) (kept next) (c.line.here + 1))
-    (put_on here next (kept next) c.in-Some-int_put.ensures.puts same) in
+    let put = gone_on here t c.line.invariant.over.1 (holding (now_of here) (kept next) (c.line.here + 1))
+    (put_on here t next (kept next) c.in-Some-int_put.ensures.puts same) in
     let s = holding (now_of here) (kept next) (c.line.here + 1) in
-    operands_fit code operator at.place (now_of here) (state_now here) (kept next) (c.line.here + 1)
-    (subst (λ instr. IsGood (effect_in code instr at.place s (state_now here))) is
-    (good_there code s (state_now here) at (behind_it here at found) put.over))
+    operands_fit code operator at.place (now_of here) (state_now here t) (kept next) (c.line.here + 1)
+    (subst (λ instr. IsGood (effect_in code instr at.place s (state_now here t))) is
+    (good_there code s (state_now here t) at (behind_it here at found) put.over))
 
 -- the int that is put, and the operator behind it
 abbrev both : In-Some-operated_at → After-step_in-at
@@ -220,17 +231,17 @@ both c = (goal.at.In-Some-operated_at c).After-step_in-at
 abbrev mid_of : In-Some-operated_at → Shown
 mid_of c = holding (now_of (both c)) (kept c.in-Some-int_put.next) (c.line.here + 1)
 
-first_on : (c : In-Some-operated_at)
-    → LeadsTo c.args.code.now (now_of (both c)) (state_now (both c)) (mid_of c) (state_now (both c))
-first_on c =
+first_on : (c : In-Some-operated_at) (t : State)
+    → LeadsTo c.args.code.now (now_of (both c)) (state_now (both c) t) (mid_of c) (state_now (both c) t)
+first_on c t =
     let next = c.in-Some-int_put.next in
-    put_on (both c) next (kept next) c.in-Some-int_put.ensures.puts (sym (to_z-of_z w64 next (search rules)))
+    put_on (both c) t next (kept next) c.in-Some-int_put.ensures.puts (sym (to_z-of_z w64 next (search rules)))
 
-second_on : (c : In-Some-operated_at)
-    → LeadsTo c.args.code.now (mid_of c) (state_now (both c))
+second_on : (c : In-Some-operated_at) (t : State)
+    → LeadsTo c.args.code.now (mid_of c) (state_now (both c) t)
     (holding (shown c.line.shred) (kept c.in-Some-operated_at.n) (c.line.here + 2))
-    (state_now (both c))
-second_on c =
+    (state_now (both c) t)
+second_on c t =
     let here = both c in
     let code = c.args.code.now in
     let next = c.in-Some-int_put.next in
@@ -239,73 +250,77 @@ second_on c =
     let behind : c.line.here + 1 + 1 ≡ c.line.here + 2 = omega arith in
     record {
       number = refl;
-      next = effect_there code (mid_of c) (state_now here) done.at (behind_it here done.at done.found)
-          ∙ ap (λ instr. effect_in code instr done.at.place (mid_of c) (state_now here)) done.is
-          ∙ operates code done.operator done.at.place (shown c.line.shred) (state_now here) (held here)
+      next = effect_there code (mid_of c) (state_now here t) done.at (behind_it here done.at done.found)
+          ∙ ap (λ instr. effect_in code instr done.at.place (mid_of c) (state_now here t)) done.is
+          ∙ operates code done.operator done.at.place (shown c.line.shred) (state_now here t) (held here)
           (kept next) (kept n) (c.line.here + 1)
           (done.gives ∙ ap (λ n. Gives (AnInt n)) (sym (to_z-of_z w64 n (search rules))))
-          ∙ ap (λ p. Next (frames_of (holding (shown c.line.shred) (kept n) p)) (state_now here)) behind;
+          ∙ ap (λ p. Next (frames_of (holding (shown c.line.shred) (kept n) p)) (state_now here t)) behind;
     }
 
 pub line-smaller-in-Some-operated_at : goal.line-smaller-in-Some-operated_at
 line-smaller-in-Some-operated_at c =
+    let t = c.line.invariant.over.0 in
     let here = (goal.at.line-smaller-in-Some-operated_at c).In-Some-operated_at in
-    let mid = gone_on (both here) (mid_of here) (first_on here) in
+    let mid = gone_on (both here) t c.line.invariant.over.1 (mid_of here) (first_on here t) in
     omega (
       arith,
-      one_lower c.args.code.now _ _ _ _ c.line.invariant.gone.over (first_on here) c.parts-parts.ensures.verified,
-      one_lower c.args.code.now _ _ _ _ mid.over (second_on here) c.parts-parts.ensures.verified,
+      one_lower c.args.code.now _ _ _ _ (c.line.invariant.gone t c.line.invariant.over.1).over (first_on here t) c.parts-parts.ensures.verified,
+      one_lower c.args.code.now _ _ _ _ mid.over (second_on here t) c.parts-parts.ensures.verified,
     )
 
 pub line-preserved-in-Some-operated_at : goal.line-preserved-in-Some-operated_at
 line-preserved-in-Some-operated_at c =
     let here = (goal.at.line-preserved-in-Some-operated_at c).In-Some-operated_at in
     let before = c.line.invariant in
-    let mid = gone_on (both here) (mid_of here) (first_on here) in
     record {
       steps = before.steps;
       from = omega (arith, before.from);
-      gone = one_on c.args.code.now c.parts-parts.ensures.verified _ _ _ _ _ _ _ (mid_of here) _ (state_now (both here)) _
-          (omega (arith, before.from)) mid (second_on here);
+      over = c.line.invariant.over;
+      gone = λ t over. one_on c.args.code.now c.parts-parts.ensures.verified _ _ _ _ _ _ _ (mid_of here) _ (state_now (both here) t) _
+          (omega (arith, before.from))
+          (gone_on (both here) t over (mid_of here) (first_on here t)) (second_on here t);
       fun = before.fun;
       same = before.same;
     }
 
 pub set_local-requires : goal.set_local-requires
 set_local-requires c =
+    let t = c.line.invariant.over.0 in
     let here = (goal.at.set_local-requires c).After-step_in-at in
     let code = c.args.code.now in
     let at = c.step_in-at.result.now in
-    local_fits code c.in-SetLocal.i at.place (shown c.line.shred) (state_now here) (held here) c.line.here
-    (subst (λ instr. IsGood (effect_in code instr at.place (now_of here) (state_now here))) c.in-SetLocal.is
-    (good_there code (now_of here) (state_now here) at (there here) c.line.invariant.gone.over))
+    local_fits code c.in-SetLocal.i at.place (shown c.line.shred) (state_now here t) (held here) c.line.here
+    (subst (λ instr. IsGood (effect_in code instr at.place (now_of here) (state_now here t))) c.in-SetLocal.is
+    (good_there code (now_of here) (state_now here t) at (there here) (c.line.invariant.gone t c.line.invariant.over.1).over))
 
 -- the int that was held is an operand beneath the one that is put
-put_over : (c : After-step_in-at) (new : Shown) (n m : ℤ)
+put_over : (c : After-step_in-at) (t : State) (new : Shown) (n m : ℤ)
     → PutsInt c.step_in-at.result.now.instr (shown c.line.shred).top.locals n → n ≡ m
     → new ≡ with_operands (shown c.line.shred) (AnInt (held c) ∷ (shown c.line.shred).top.operands)
-    → LeadsTo c.args.code.now (now_of c) (state_now c) (holding new m (c.line.here + 1))
-    (state_with c new.turns)
-put_over c new n m is same over =
-    subst (λ (new : Shown). LeadsTo c.args.code.now (now_of c) (state_now c)
-    (holding new m (c.line.here + 1)) (state_with c new.turns)) (sym over) (put_on c n m is same)
+    → LeadsTo c.args.code.now (now_of c) (state_now c t) (holding new m (c.line.here + 1))
+    (state_with t new.turns)
+put_over c t new n m is same over =
+    subst (λ (new : Shown). LeadsTo c.args.code.now (now_of c) (state_now c t)
+    (holding new m (c.line.here + 1)) (state_with t new.turns)) (sym over) (put_on c t n m is same)
 
 -- the same of the context that has it
-over_on : (c : In_ok-push-in-Int) → let here = (goal.at.In_ok-push-in-Int c).After-step_in-at in
-    LeadsTo c.args.code.now (now_of here) (state_now here)
+over_on : (c : In_ok-push-in-Int) (t : State) → let here = (goal.at.In_ok-push-in-Int c).After-step_in-at in
+    LeadsTo c.args.code.now (now_of here) (state_now here t)
     (holding (shown c.push-in_default-operated_at.new.shred) (kept c.in-Some-int_put.next) (c.line.here + 1))
-    (state_of c.push-in_default-operated_at.new.shred c.args.world.now c.args.acts.now)
-over_on c =
+    (state_with t (shown c.push-in_default-operated_at.new.shred).turns)
+over_on c t =
     let next = c.in-Some-int_put.next in
-    put_over (goal.at.In_ok-push-in-Int c).After-step_in-at (shown c.push-in_default-operated_at.new.shred) next (kept next)
+    put_over (goal.at.In_ok-push-in-Int c).After-step_in-at t (shown c.push-in_default-operated_at.new.shred) next (kept next)
     c.in-Some-int_put.ensures.puts (sym (to_z-of_z w64 next (search rules))) c.in_ok-push-in-Int.ensures
 
 pub line-smaller : goal.line-smaller
 line-smaller c =
+    let t = c.line.invariant.over.0 in
     omega (
       arith,
-      one_lower c.args.code.now _ _ _ _ c.line.invariant.gone.over
-          (over_on (goal.at.line-smaller c).In_ok-push-in-Int) c.parts-parts.ensures.verified,
+      one_lower c.args.code.now _ _ _ _ (c.line.invariant.gone t c.line.invariant.over.1).over
+          (over_on (goal.at.line-smaller c).In_ok-push-in-Int t) c.parts-parts.ensures.verified,
     )
 
 pub line-preserved : goal.line-preserved
@@ -317,7 +332,8 @@ line-preserved c =
       steps = ap (λ (s : Shown). steps_of (slice_get c.args.code.now.funs s.top.fun)) pushed
           ∙ before.steps;
       from = omega (arith, before.from);
-      gone = gone_on (goal.at.In_ok-push-in-Int there).After-step_in-at _ (over_on there);
+      over = c.line.invariant.over;
+      gone = λ t over. gone_on (goal.at.In_ok-push-in-Int there).After-step_in-at t over _ (over_on there t);
       fun = same_fun _ _ (shown c.args.shred.now).top.fun c.line.moved
           (ap (λ (s : Shown). s.top.fun) pushed) before.fun;
       same = record {
@@ -329,25 +345,27 @@ line-preserved c =
 
 pub operated-requires : goal.operated-requires
 operated-requires c =
+    let t = c.line.invariant.over.0 in
     let here = (goal.at.operated-requires c).After-step_in-at in
     let code = c.args.code.now in
     let at = c.step_in-at.result.now in
-    operands_fit code c.in-Op2.operator at.place (shown c.line.shred) (state_now here) (held here) c.line.here
-    (subst (λ instr. IsGood (effect_in code instr at.place (now_of here) (state_now here))) c.in-Op2.is
-    (good_there code (now_of here) (state_now here) at (there here) c.line.invariant.gone.over))
+    operands_fit code c.in-Op2.operator at.place (shown c.line.shred) (state_now here t) (held here) c.line.here
+    (subst (λ instr. IsGood (effect_in code instr at.place (now_of here) (state_now here t))) c.in-Op2.is
+    (good_there code (now_of here) (state_now here t) at (there here) (c.line.invariant.gone t c.line.invariant.over.1).over))
 
 pub int_units-samples-requires-clause-fitting : goal.int_units-samples-requires-clause-fitting
 int_units-samples-requires-clause-fitting c =
+    let t = c.line.invariant.over.0 in
     let here = (goal.at.int_units-samples-requires-clause-fitting c).After-step_in-at in
     let code = c.args.code.now in
     let at = c.step_in-at.result.now in
     let n = c.in-UnitInt.numerator in
     let d = c.in-UnitInt.denominator in
     rw (to_z-of_z w64 n (search rules), to_z-of_z w64 d (search rules))
-    (units_fit code n d at.place (shown c.line.shred) (state_now here) (held here) c.line.here
-    (subst (λ instr. IsGood (effect_in code instr at.place (now_of here) (state_now here)))
+    (units_fit code n d at.place (shown c.line.shred) (state_now here t) (held here) c.line.here
+    (subst (λ instr. IsGood (effect_in code instr at.place (now_of here) (state_now here t)))
     c.in-UnitInt.is
-    (good_there code (now_of here) (state_now here) at (there here) c.line.invariant.gone.over)))
+    (good_there code (now_of here) (state_now here t) at (there here) (c.line.invariant.gone t c.line.invariant.over.1).over)))
 
 pub int_units-samples-requires-clause-divisor : goal.int_units-samples-requires-clause-divisor
 int_units-samples-requires-clause-divisor c =
@@ -359,21 +377,21 @@ int_units-samples-requires-clause-divisor c =
     c.parts-parts.ensures.verified (there here)))
 
 -- the dur of so many units
-units_on : (c : After-step_in-at) (new : Shown) (n d : ℤ) (v : Datum)
+units_on : (c : After-step_in-at) (t : State) (new : Shown) (n d : ℤ) (v : Datum)
     → c.step_in-at.result.now.instr ≡ UnitInt n d → int_units n d (AnInt (held c)) ≡ Gives v
     → new ≡ at_place (with_operands (shown c.line.shred) (v ∷ (shown c.line.shred).top.operands))
     (c.line.here + 1)
-    → LeadsTo c.args.code.now (now_of c) (state_now c) new (state_with c new.turns)
-units_on c new n d v is gives made =
+    → LeadsTo c.args.code.now (now_of c) (state_now c t) new (state_with t new.turns)
+units_on c t new n d v is gives made =
     let code = c.args.code.now in
     let place = c.step_in-at.result.now.place in
-    leads c new (ap (λ (s : Shown). s.number) made)
-    (ap (λ instr. effect_in code instr place (now_of c) (state_now c)) is
-    ∙ counts_units code n d place (shown c.line.shred) new (state_now c) (held c) c.line.here v gives made
-    ∙ ap (λ turns. Next (frames_of new) (state_with c turns)) (sym (ap (λ (s : Shown). s.turns) made)))
+    leads c t new (ap (λ (s : Shown). s.number) made)
+    (ap (λ instr. effect_in code instr place (now_of c) (state_now c t)) is
+    ∙ counts_units code n d place (shown c.line.shred) new (state_now c t) (held c) c.line.here v gives made
+    ∙ ap (λ turns. Next (frames_of new) (state_with t turns)) (sym (ap (λ (s : Shown). s.turns) made)))
 
 pub returns-in-UnitInt-clause-gone : goal.returns-in-UnitInt-clause-gone
-returns-in-UnitInt-clause-gone c =
+returns-in-UnitInt-clause-gone c = λ t over.
     let here = (goal.at.returns-in-UnitInt-clause-gone c).After-step_in-at in
     let n = c.in-UnitInt.numerator in
     let d = c.in-UnitInt.denominator in
@@ -385,36 +403,37 @@ returns-in-UnitInt-clause-gone c =
     ∙ c.int_units-samples.ensures in
     subst (λ m. HasGoneOn c.args.code.now c.args.begun.now (c.args.here.now + 1 - c.args.from.now)
     (holding (shown c.args.shred.now) m (c.args.here.now + 1))
-    (state_of c.args.shred.now c.args.world.now c.args.acts.now)
+    (state_with t (shown c.args.shred.now).turns)
     c.line.begun (c.line.here + 1 - c.line.from) new
-    (state_of c.jump-in-UnitInt.new.shred c.args.world.now c.args.acts.now))
+    (state_with t (shown c.jump-in-UnitInt.new.shred).turns))
     (to_z-of_z w64 c.args.first (search rules))
-    (gone_on here new (units_on here new n d v c.in-UnitInt.is gives
+    (gone_on here t (over_kept here t over) new (units_on here t new n d v c.in-UnitInt.is gives
     (c.jump-in-UnitInt.ensures ∙ ap (λ s. at_place s (c.line.here + 1)) c.in_ok-push-in-UnitInt.ensures)))
 
 -- the local that is set
-set_on : (c : After-step_in-at) (new : Shown) (i : ℕ)
+set_on : (c : After-step_in-at) (t : State) (new : Shown) (i : ℕ)
     → c.step_in-at.result.now.instr ≡ SetLocal i
     → with_local (shown c.line.shred).top.locals i (AnInt (held c)) ≡ Gives new.top.locals
     → new ≡ with_locals (shown c.line.shred) new.top.locals
-    → LeadsTo c.args.code.now (now_of c) (state_now c) (holding new (held c) (c.line.here + 1))
-    (state_with c new.turns)
-set_on c new i is set kept =
+    → LeadsTo c.args.code.now (now_of c) (state_now c t) (holding new (held c) (c.line.here + 1))
+    (state_with t new.turns)
+set_on c t new i is set kept =
     let code = c.args.code.now in
     let place = c.step_in-at.result.now.place in
     let next = holding new (held c) (c.line.here + 1) in
-    leads c next (ap (λ (s : Shown). s.number) kept)
-    (ap (λ instr. effect_in code instr place (now_of c) (state_now c)) is
-    ∙ sets code i place (shown c.line.shred) new (state_now c) (held c) c.line.here set kept
-    ∙ ap (λ turns. Next (frames_of next) (state_with c turns)) (sym (ap (λ (s : Shown). s.turns) kept)))
+    leads c t next (ap (λ (s : Shown). s.number) kept)
+    (ap (λ instr. effect_in code instr place (now_of c) (state_now c t)) is
+    ∙ sets code i place (shown c.line.shred) new (state_now c t) (held c) c.line.here set kept
+    ∙ ap (λ turns. Next (frames_of next) (state_with t turns)) (sym (ap (λ (s : Shown). s.turns) kept)))
 
 pub line-smaller-in-SetLocal-1 : goal.line-smaller-in-SetLocal-1
 line-smaller-in-SetLocal-1 c =
+    let t = c.line.invariant.over.0 in
     let here = (goal.at.line-smaller-in-SetLocal-1 c).After-step_in-at in
     omega (
       arith,
-      one_lower c.args.code.now _ _ _ _ c.line.invariant.gone.over
-          (set_on here (shown c.set_local.new.shred) c.in-SetLocal.i c.in-SetLocal.is
+      one_lower c.args.code.now _ _ _ _ (c.line.invariant.gone t c.line.invariant.over.1).over
+          (set_on here t (shown c.set_local.new.shred) c.in-SetLocal.i c.in-SetLocal.is
           c.set_local.ensures.set c.set_local.ensures.kept) c.parts-parts.ensures.verified,
     )
 
@@ -427,8 +446,8 @@ line-preserved-in-SetLocal-1 c =
       steps = ap (λ (s : Shown). steps_of (slice_get c.args.code.now.funs s.top.fun)) kept
           ∙ before.steps;
       from = omega (arith, before.from);
-      gone = gone_on here _
-          (set_on here (shown c.set_local.new.shred) c.in-SetLocal.i c.in-SetLocal.is
+      over = c.line.invariant.over;
+      gone = λ t over. gone_on here t over _ (set_on here t (shown c.set_local.new.shred) c.in-SetLocal.i c.in-SetLocal.is
           c.set_local.ensures.set kept);
       fun = same_fun _ _ (shown c.args.shred.now).top.fun c.line.moved (ap (λ (s : Shown). s.top.fun) kept) before.fun;
       same = record {
@@ -439,49 +458,51 @@ line-preserved-in-SetLocal-1 c =
     }
 
 -- the local that is updated
-updated_on : (c : After-step_in-at) (new : Shown) (i : ℕ) (o : Operator) (n m : ℤ)
+updated_on : (c : After-step_in-at) (t : State) (new : Shown) (i : ℕ) (o : Operator) (n m : ℤ)
     → c.step_in-at.result.now.instr ≡ OpLocal i o
     → HasUpdated (shown c.line.shred).top.locals i o (held c) n new.top.locals
     → new ≡ with_locals (shown c.line.shred) new.top.locals → n ≡ m
-    → LeadsTo c.args.code.now (now_of c) (state_now c) (holding new m (c.line.here + 1))
-    (state_with c new.turns)
-updated_on c new i o n m is has kept same =
+    → LeadsTo c.args.code.now (now_of c) (state_now c t) (holding new m (c.line.here + 1))
+    (state_with t new.turns)
+updated_on c t new i o n m is has kept same =
     let code = c.args.code.now in
     let place = c.step_in-at.result.now.place in
     let next = holding new m (c.line.here + 1) in
-    leads c next (ap (λ (s : Shown). s.number) kept)
-    (ap (λ instr. effect_in code instr place (now_of c) (state_now c)) is
-    ∙ updates code i o place (shown c.line.shred) new (state_now c) (held c) n c.line.here has kept
-    ∙ ap (λ n. Next (frames_of (holding new n (c.line.here + 1))) (state_now c)) same
-    ∙ ap (λ turns. Next (frames_of next) (state_with c turns)) (sym (ap (λ (s : Shown). s.turns) kept)))
+    leads c t next (ap (λ (s : Shown). s.number) kept)
+    (ap (λ instr. effect_in code instr place (now_of c) (state_now c t)) is
+    ∙ updates code i o place (shown c.line.shred) new (state_now c t) (held c) n c.line.here has kept
+    ∙ ap (λ n. Next (frames_of (holding new n (c.line.here + 1))) (state_now c t)) same
+    ∙ ap (λ turns. Next (frames_of next) (state_with t turns)) (sym (ap (λ (s : Shown). s.turns) kept)))
 
 pub added-requires : goal.added-requires
 added-requires c =
+    let t = c.line.invariant.over.0 in
     let here = (goal.at.added-requires c).After-step_in-at in
     let code = c.args.code.now in
     let at = c.step_in-at.result.now in
-    sum_fits code c.in-OpLocal.i c.in-OpLocal.operator at.place (shown c.line.shred) (state_now here)
+    sum_fits code c.in-OpLocal.i c.in-OpLocal.operator at.place (shown c.line.shred) (state_now here t)
     (held here) c.line.here
-    (subst (λ instr. IsGood (effect_in code instr at.place (now_of here) (state_now here))) c.in-OpLocal.is
-    (good_there code (now_of here) (state_now here) at (there here) c.line.invariant.gone.over))
+    (subst (λ instr. IsGood (effect_in code instr at.place (now_of here) (state_now here t))) c.in-OpLocal.is
+    (good_there code (now_of here) (state_now here t) at (there here) (c.line.invariant.gone t c.line.invariant.over.1).over))
 
 -- the same of the context that has it
-sum_on : (c : In-Some-added) → let here = (goal.at.In-Some-added c).After-step_in-at in
-    LeadsTo c.args.code.now (now_of here) (state_now here)
+sum_on : (c : In-Some-added) (t : State) → let here = (goal.at.In-Some-added c).After-step_in-at in
+    LeadsTo c.args.code.now (now_of here) (state_now here t)
     (holding (shown c.added.new.shred) (kept c.in-Some-added.n) (c.line.here + 1))
-    (state_of c.added.new.shred c.args.world.now c.args.acts.now)
-sum_on c =
+    (state_with t (shown c.added.new.shred).turns)
+sum_on c t =
     let n = c.in-Some-added.n in
-    updated_on (goal.at.In-Some-added c).After-step_in-at (shown c.added.new.shred) c.in-OpLocal.i
+    updated_on (goal.at.In-Some-added c).After-step_in-at t (shown c.added.new.shred) c.in-OpLocal.i
     c.in-OpLocal.operator n _ c.in-OpLocal.is c.in-Some-added.ensures.sum c.added.ensures.kept
     (sym (to_z-of_z w64 n (search rules)))
 
 pub line-smaller-in-OpLocal-1 : goal.line-smaller-in-OpLocal-1
 line-smaller-in-OpLocal-1 c =
+    let t = c.line.invariant.over.0 in
     omega (
       arith,
-      one_lower c.args.code.now _ _ _ _ c.line.invariant.gone.over
-          (sum_on (goal.at.line-smaller-in-OpLocal-1 c).In-Some-added) c.parts-parts.ensures.verified,
+      one_lower c.args.code.now _ _ _ _ (c.line.invariant.gone t c.line.invariant.over.1).over
+          (sum_on (goal.at.line-smaller-in-OpLocal-1 c).In-Some-added t) c.parts-parts.ensures.verified,
     )
 
 pub line-preserved-in-OpLocal-1 : goal.line-preserved-in-OpLocal-1
@@ -493,7 +514,8 @@ line-preserved-in-OpLocal-1 c =
       steps = ap (λ (s : Shown). steps_of (slice_get c.args.code.now.funs s.top.fun)) kept
           ∙ before.steps;
       from = omega (arith, before.from);
-      gone = gone_on (goal.at.In-Some-added here).After-step_in-at _ (sum_on here);
+      over = c.line.invariant.over;
+      gone = λ t over. gone_on (goal.at.In-Some-added here).After-step_in-at t over _ (sum_on here t);
       fun = same_fun _ _ (shown c.args.shred.now).top.fun c.line.moved
           (ap (λ (s : Shown). s.top.fun) kept) before.fun;
       same = record {
@@ -504,28 +526,29 @@ line-preserved-in-OpLocal-1 c =
     }
 
 -- where a return goes, of the context that has it
-return_on : (c : After-counted_to-in-Return)
-    → let here = (goal.at.After-counted_to-in-Return c).After-step_in-at in
-    LeadsTo c.args.code.now (now_of here) (state_now here)
+return_on : (c : After-counted_to-in-Return) (t : State) → let here = (goal.at.After-counted_to-in-Return c).After-step_in-at in
+    LeadsTo c.args.code.now (now_of here) (state_now here t)
     (holding (shown c.leave.new.shred) (held here) (shown c.leave.new.shred).top.place)
-    (state_of c.leave.new.shred c.args.world.now c.args.acts.now)
-return_on c =
-    returned_on (goal.at.After-counted_to-in-Return c).After-step_in-at (shown c.leave.new.shred)
+    (state_with t (shown c.leave.new.shred).turns)
+return_on c t =
+    returned_on (goal.at.After-counted_to-in-Return c).After-step_in-at t (shown c.leave.new.shred)
     c.in-Return.is c.if-not-leave.ensures.left c.leave.ensures.kept
 
 pub steps_at-steps-requires : goal.steps_at-steps-requires
 steps_at-steps-requires c =
+    let t = c.line.invariant.over.0 in
     let there = (goal.at.steps_at-steps-requires c).After-counted_to-in-Return in
     let here = (goal.at.After-counted_to-in-Return there).After-step_in-at in
     let new = shown c.leave.new.shred in
     rw (c.parts-parts.ensures.parts, c.fun.ensures)
     (has_function c.args.code.now (holding new (held here) new.top.place) _
-    (gone_on here _ (return_on there)).over)
+    (gone_on here t c.line.invariant.over.1 _ (return_on there t)).over)
 
 pub line-smaller-in-Return-1 : goal.line-smaller-in-Return-1
 line-smaller-in-Return-1 c =
-    let one = one_lower c.args.code.now _ _ _ _ c.line.invariant.gone.over
-    (return_on (goal.at.line-smaller-in-Return-1 c).After-counted_to-in-Return) c.parts-parts.ensures.verified in
+    let t = c.line.invariant.over.0 in
+    let one = one_lower c.args.code.now _ _ _ _ (c.line.invariant.gone t c.line.invariant.over.1).over
+    (return_on (goal.at.line-smaller-in-Return-1 c).After-counted_to-in-Return t) c.parts-parts.ensures.verified in
     rw c.place.ensures (omega (arith, one))
 
 pub line-preserved-in-Return-1 : goal.line-preserved-in-Return-1
@@ -544,10 +567,11 @@ line-preserved-in-Return-1 c =
           ∙ ap (λ f. steps_of (slice_get parts.funs f)) (sym c.fun.ensures)
           ∙ c.steps_at-steps.ensures;
       from = omega arith;
-      gone = subst (λ p. Gone here ran (p - p) (holding new (held here) p) (state_with here new.turns))
+      over = c.line.invariant.over;
+      gone = λ t over. subst (λ p. Gone here t ran (p - p) (holding new (held here) p) (state_with t new.turns))
           (sym c.place.ensures)
           (counted_on c.args.code.now c.parts-parts.ensures.verified _ _ _ _ _ _ _ new.top.place _ _ is
-          (gone_on here _ (return_on there)));
+          (gone_on here t over _ (return_on there t)));
       fun = tt;
       same = record {
         number = ap (λ (s : Shown). s.number) kept ∙ before.same.number;
@@ -557,7 +581,7 @@ line-preserved-in-Return-1 c =
     }
 
 pub returns-in-Drop-clause-gone : goal.returns-in-Drop-clause-gone
-returns-in-Drop-clause-gone c =
+returns-in-Drop-clause-gone c = λ t over.
     let here = (goal.at.returns-in-Drop-clause-gone c).After-step_in-at in
     let code = c.args.code.now in
     let place = c.step_in-at.result.now.place in
@@ -565,10 +589,30 @@ returns-in-Drop-clause-gone c =
     let new = shown c.jump-in-Drop.new.shred in
     subst (λ m. HasGoneOn code c.args.begun.now (c.args.here.now + 1 - c.args.from.now)
     (holding (shown c.args.shred.now) m (c.args.here.now + 1))
-    (state_of c.args.shred.now c.args.world.now c.args.acts.now)
+    (state_with t (shown c.args.shred.now).turns)
     c.line.begun (c.line.here + 1 - c.line.from) new
-    (state_of c.jump-in-Drop.new.shred c.args.world.now c.args.acts.now)) (to_z-of_z w64 c.args.first (search rules))
-    (gone_on here new (leads here new (ap (λ (s : Shown). s.number) c.jump-in-Drop.ensures)
-    (ap (λ instr. effect_in code instr place (now_of here) (state_now here)) c.in-Drop.is
-    ∙ drops code place s (state_now here) (held here) c.line.here
-    ∙ ap (λ (s : Shown). Next (frames_of s) (state_with here s.turns)) (sym c.jump-in-Drop.ensures))))
+    (state_with t (shown c.jump-in-Drop.new.shred).turns)) (to_z-of_z w64 c.args.first (search rules))
+    (gone_on here t (over_kept here t over) new (leads here t new (ap (λ (s : Shown). s.number) c.jump-in-Drop.ensures)
+    (ap (λ instr. effect_in code instr place (now_of here) (state_now here t)) c.in-Drop.is
+    ∙ drops code place s (state_now here t) (held here) c.line.here
+    ∙ ap (λ (s : Shown). Next (frames_of s) (state_with t s.turns)) (sym c.jump-in-Drop.ensures))))
+
+pub step_in-at-requires : goal.step_in-at-requires
+step_in-at-requires c =
+    let code = c.args.code.now in
+    let s = holding (shown c.line.shred) (to_z w64 c.line.top-bits) c.line.here in
+    let t = c.line.invariant.over.0 in
+    subst (λ steps. IsSome (slice_get steps c.line.here)) c.line.invariant.steps
+    (with_good code s.number (step_at code s.top.fun s.top.place) _
+    (good code s.number (enough code) (frames_of s) _
+    (c.line.invariant.gone t c.line.invariant.over.1).over))
+
+pub int_put-requires : goal.int_put-requires
+int_put-requires c =
+    let here = (goal.at.int_put-requires c).After-step_in-at in
+    let code = c.args.code.now in
+    let at = c.step_in-at.result.now in
+    let t = c.line.invariant.over.0 in
+    can_put code at.instr at.place (now_of here) (state_now here t)
+    (good_there code (now_of here) (state_now here t) at (there here)
+    (c.line.invariant.gone t c.line.invariant.over.1).over)

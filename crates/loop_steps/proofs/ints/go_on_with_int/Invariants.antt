@@ -2,9 +2,11 @@ use Rattle.std.proofs.Common.{◌≡◌, ◌≤◌, ◌-◌, slice_get}
 use Rattle.std.specs.Bool.{OnFalse}
 use Rattle.ck_code.specs.Machine.{steps_of}
 use Rattle.ck_code.specs.Potential.{potential}
+use Rattle.ck_store.specs.Store.{State}
 use Rattle.machine_world.specs.Shown.{shown, frames_of}
-use Rattle.machine_world.specs.Steps.{state_of, IsSame}
-use Rattle.loop_steps.specs.Ints.{holding, HasGoneOn}
+use Rattle.machine_world.specs.Steps.{IsSame}
+use Rattle.loop_steps.specs.Ints.{holding, state_with, run_from, HasGoneOn}
+use Rattle.loop_steps.specs.Runs.{IsOver}
 use Rattle.loop_steps.proofs.ints.go_on_with_int.Given as goal
 
 abbrev pub invariant-line : goal.invariant-line
@@ -14,9 +16,13 @@ invariant-line l =
     record {
       steps : steps_of (slice_get l.code.funs (shown l.shred).top.fun) ≡ l.steps;
       from : l.from ≤ l.here;
-      gone : HasGoneOn l.code l.initial.begun (l.initial.here - l.initial.from) first
-          (state_of l.initial.shred l.world l.acts) l.begun (l.here - l.from) now
-          (state_of l.shred l.world l.acts);
+      over : (s : State)
+          × IsOver (run_from l.code first (state_with s (shown l.initial.shred).turns));
+      gone : (s : State)
+          → IsOver (run_from l.code first (state_with s (shown l.initial.shred).turns))
+          → HasGoneOn l.code l.initial.begun (l.initial.here - l.initial.from) first
+          (state_with s (shown l.initial.shred).turns) l.begun (l.here - l.from) now
+          (state_with s (shown l.shred).turns);
       fun : OnFalse l.moved ((shown l.shred).top.fun ≡ (shown l.initial.shred).top.fun);
       same : IsSame l.initial.shred l.shred;
     }

@@ -24,22 +24,22 @@ local-requires c =
     (meant c.peek-operand.result.now) (update_fits (goal.at.local-requires c).After-peek-operand)
 
 pub returns-in-GoesOn-clause-follows : goal.returns-in-GoesOn-clause-follows
-returns-in-GoesOn-clause-follows c = λ code world acts.
+returns-in-GoesOn-clause-follows c = λ code store acts.
     let shred = c.update_any_local.new.shred in
-    let effect = effect_of code (OpLocal c.args.i c.args.operator) c.args.place c.args.shred.now world acts in
-    subst (λ then. Matches then effect c.args.place shred world acts) c.in-GoesOn.is
-    (c.in_ok-update_any_local.ensures.follows code world acts)
+    let effect = effect_of code (OpLocal c.args.i c.args.operator) c.args.place c.args.shred.now store acts in
+    subst (λ then. Matches then effect c.args.place shred store acts) c.in-GoesOn.is
+    (c.in_ok-update_any_local.ensures.follows code store acts)
 
 pub returns-in-Moves-clause-follows : goal.returns-in-Moves-clause-follows
-returns-in-Moves-clause-follows c = λ code world acts.
+returns-in-Moves-clause-follows c = λ code store acts.
     let shred = c.update_any_local.new.shred in
-    let effect = effect_of code (OpLocal c.args.i c.args.operator) c.args.place c.args.shred.now world acts in
-    subst (λ then. Matches then effect c.args.place shred world acts) c.in-Moves.is
-    (c.in_ok-update_any_local.ensures.follows code world acts)
+    let effect = effect_of code (OpLocal c.args.i c.args.operator) c.args.place c.args.shred.now store acts in
+    subst (λ then. Matches then effect c.args.place shred store acts) c.in-Moves.is
+    (c.in_ok-update_any_local.ensures.follows code store acts)
 
 pub returns-in-Stopped-clause-follows : goal.returns-in-Stopped-clause-follows
-returns-in-Stopped-clause-follows c = λ code world acts.
+returns-in-Stopped-clause-follows c = λ code store acts.
     let shred = c.update_any_local.new.shred in
-    let effect = effect_of code (OpLocal c.args.i c.args.operator) c.args.place c.args.shred.now world acts in
-    subst (λ then. Matches then effect c.args.place shred world acts) c.in-Stopped.is
-    (c.in_ok-update_any_local.ensures.follows code world acts)
+    let effect = effect_of code (OpLocal c.args.i c.args.operator) c.args.place c.args.shred.now store acts in
+    subst (λ then. Matches then effect c.args.place shred store acts) c.in-Stopped.is
+    (c.in_ok-update_any_local.ensures.follows code store acts)
