@@ -2,9 +2,10 @@
 use Rattle.std.proofs.Common.{◌≡◌, ℕ, ℤ, Bool, true, false, List, ◌∷◌, refl}
 use Rattle.ck_values.specs.declared.trap.Place.{Place}
 use Rattle.ck_values.specs.Datum.{Datum, AnInt, AFloat, ADur}
+use Rattle.ck_typed.specs.declared.native.Native.TheVariants.{SetAdsr}
 use Rattle.ugen_kinds.specs.Generator.{keyed, staged}
 use Rattle.ck_store.specs.Store.{Store, State, IsFitting}
-use Rattle.ck_store.specs.Graph.{place_at, unit_keyed}
+use Rattle.ck_store.specs.Graph.{place_at, unit_keyed, unit_staged}
 use Rattle.ck_store.specs.Natives.{native, leaving}
 use Rattle.ck_code.specs.Machine.{Frame, tried, pushes, calls_native}
 use Rattle.machine_world.proofs.Located.{change_first}
@@ -43,3 +44,11 @@ pub key_where_called : (is_on : Bool) (place : Place) (f p : ℕ) (l : List Datu
 unfolding native
 key_where_called true place f p l u n ops rest s = refl
 key_where_called false place f p l u n ops rest s = refl
+
+pub stages_called : (place : Place) (f p : ℕ) (l : List Datum) (r level d a : ℤ) (u : Datum)
+    (ops : List Datum) (rest : List Frame) (s : State)
+    → calls_native place SetAdsr f p l (ADur r ∷ AFloat level ∷ ADur d ∷ ADur a ∷ u ∷ ops) rest s
+    ≡ tried (leaving s (unit_staged a d level r u s.store)) place s
+    (λ given. pushes given.value f p l ops rest given.state)
+unfolding native
+stages_called place f p l r level d a u ops rest s = refl

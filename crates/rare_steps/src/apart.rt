@@ -1,7 +1,10 @@
 //! The instructions that aren't carried out within the loop.
 ghost use Rattle.std.specs.Prelude.{◌≡◌, ◌-◌, ◌^◌, ◌<◌, IfOk, OnOk};
+ghost use Rattle.ck_store.specs.Store.{Store};
 ghost use Rattle.machine_world.specs.Shown.{next_place};
-ghost use Rattle.machine_world.specs.Steps.{effect_on, IsGood, IsRunnable, Matches, Stays, IsSame};
+ghost use Rattle.machine_world.specs.Steps.{effect_on, IsGood, IsRunnable, Follows, Stays, IsSame};
+ghost use Rattle.machine_world.specs.Tries.{HasStore};
+ghost use Rattle.machine_world.specs.Worlds.{StandsFor};
 ghost use Rattle.rare_steps.specs.Rare.{IsRare, IsDeed};
 
 use crate::arrays::{fill, pass_items, update_item};
@@ -34,11 +37,13 @@ pub fn rare_step(
     acts: &mut Acts,
 ) -> Result<Then, Memory>
     requires rare { IsRare at.now.instr }
-    requires good { IsGood (effect_on code.now at.now shred.old world.old acts.old) }
+    requires good { HasStore world.old
+        (λ store. IsGood (effect_on code.now at.now shred.old store acts.old)) }
     requires runs { IsRunnable at.now.instr }
     requires place { next_place shred.old < 2 ^ 64 - 1 }
-    ensures follows { let effect = effect_on code.now at.now shred.old world.old acts.old in
-        IfOk result (λ then. Matches then effect at.now.place shred.new world.new acts.new) }
+    ensures follows { (store : Store) → StandsFor world.old store →
+        let effect = effect_on code.now at.now shred.old store acts.old in
+        IfOk result (λ then. Follows then effect at.now.place shred.new world.new acts.new) }
     ensures same { OnOk result (IsSame shred.old shred.new) }
     ensures stays { IfOk result (λ then. Stays then shred.old shred.new) }
     ensures ran { OnOk result (world.new.ran ≡ world.old.ran) }
@@ -61,11 +66,13 @@ fn carry_out(
     acts: &mut Acts,
 ) -> Result<Then, Memory>
     requires rare { IsRare at.now.instr }
-    requires good { IsGood (effect_on code.now at.now shred.old world.old acts.old) }
+    requires good { HasStore world.old
+        (λ store. IsGood (effect_on code.now at.now shred.old store acts.old)) }
     requires runs { IsRunnable at.now.instr }
     requires place { next_place shred.old < 2 ^ 64 - 1 }
-    ensures follows { let effect = effect_on code.now at.now shred.old world.old acts.old in
-        IfOk result (λ then. Matches then effect at.now.place shred.new world.new acts.new) }
+    ensures follows { (store : Store) → StandsFor world.old store →
+        let effect = effect_on code.now at.now shred.old store acts.old in
+        IfOk result (λ then. Follows then effect at.now.place shred.new world.new acts.new) }
     ensures same { OnOk result (IsSame shred.old shred.new) }
     ensures stays { IfOk result (λ then. Stays then shred.old shred.new) }
     ensures ran { OnOk result (world.new.ran ≡ world.old.ran) }
@@ -102,11 +109,13 @@ fn carry_out_deed(
     acts: &mut Acts,
 ) -> Result<Then, Memory>
     requires deed { IsDeed at.now.instr }
-    requires good { IsGood (effect_on code.now at.now shred.old world.old acts.old) }
+    requires good { HasStore world.old
+        (λ store. IsGood (effect_on code.now at.now shred.old store acts.old)) }
     requires runs { IsRunnable at.now.instr }
     requires place { next_place shred.old < 2 ^ 64 - 1 }
-    ensures follows { let effect = effect_on code.now at.now shred.old world.old acts.old in
-        IfOk result (λ then. Matches then effect at.now.place shred.new world.new acts.new) }
+    ensures follows { (store : Store) → StandsFor world.old store →
+        let effect = effect_on code.now at.now shred.old store acts.old in
+        IfOk result (λ then. Follows then effect at.now.place shred.new world.new acts.new) }
     ensures same { OnOk result (IsSame shred.old shred.new) }
     ensures stays { IfOk result (λ then. Stays then shred.old shred.new) }
     ensures ran { OnOk result (world.new.ran ≡ world.old.ran) }

@@ -4,13 +4,14 @@ ghost use Rattle.ck_code.specs.declared.code.CodeParts.{CodeParts};
 ghost use Rattle.ck_code.specs.declared.instr.Instr.TheVariants.{OpItem, Each, Fill};
 ghost use Rattle.ck_code.specs.declared.instr.Instr.TheVariants.{Native as BuiltIn};
 ghost use Rattle.ck_store.specs.Arrays.{item_of, with_item, item_count, cleared, has_item, filled};
-ghost use Rattle.ck_store.specs.Store.{IsFitting};
+ghost use Rattle.ck_store.specs.Store.{Store};
 ghost use Rattle.ck_typed.specs.declared.native.Native.TheVariants.{Size, Clear};
 ghost use Rattle.machine_world.specs.declared.acts.Act.{Act};
 ghost use Rattle.machine_world.specs.Shown.{operands_of, next_place};
 ghost use Rattle.machine_world.specs.Steps.{effect_of, of_top, of_two, of_three, updated, Matches};
-ghost use Rattle.machine_world.specs.Steps.{Stays, IsSame};
-ghost use Rattle.machine_world.specs.Worlds.{store_of};
+ghost use Rattle.machine_world.specs.Steps.{Follows, Stays, IsSame};
+ghost use Rattle.machine_world.specs.Tries.{CanDo};
+ghost use Rattle.machine_world.specs.Worlds.{StandsFor};
 
 use ck_values::{Op2, Place, Value};
 use fixed_point::Memory;
@@ -28,13 +29,13 @@ pub(crate) fn update_item(
     operator: Op2,
     place: Place,
 ) -> Result<Then, Memory>
-    requires operands { let store = store_of world.old in
-        IsFitting (of_three (operands_of shred.old)
+    requires operands { CanDo world.old (λ store. of_three (operands_of shred.old)
         (λ e r i. updated (item_of store.objects r i) operator (with_item store r i) e)) }
     requires place { next_place shred.old < 2 ^ 64 - 1 }
-    ensures follows { (code : CodeParts) (acts : List Act) →
-        let effect = effect_of code (OpItem operator) place shred.old world.old acts in
-        IfOk result (λ then. Matches then effect place shred.new world.new acts) }
+    ensures follows { (code : CodeParts) (acts : List Act) (store : Store) →
+        StandsFor world.old store →
+        let effect = effect_of code (OpItem operator) place shred.old store acts in
+        IfOk result (λ then. Follows then effect place shred.new world.new acts) }
     ensures same { OnOk result (IsSame shred.old shred.new) }
     ensures stays { IfOk result (λ then. Stays then shred.old shred.new) }
     ensures ran { OnOk result (world.new.ran ≡ world.old.ran) }
@@ -65,12 +66,13 @@ pub(crate) fn pass_items(
     to: usize,
     place: Place,
 ) -> Result<Then, Memory>
-    requires operands { IsFitting (of_two (operands_of shred.old)
-        (has_item (store_of world.now).objects)) }
+    requires operands { CanDo world.now
+        (λ store. of_two (operands_of shred.old) (has_item store.objects)) }
     requires place { next_place shred.old < 2 ^ 64 - 1 }
-    ensures follows { (code : CodeParts) (acts : List Act) →
-        let effect = effect_of code (Each to) place shred.old world.now acts in
-        IfOk result (λ then. Matches then effect place shred.new world.now acts) }
+    ensures follows { (code : CodeParts) (acts : List Act) (store : Store) →
+        StandsFor world.now store →
+        let effect = effect_of code (Each to) place shred.old store acts in
+        IfOk result (λ then. Matches then effect place shred.new store acts) }
     ensures same { OnOk result (IsSame shred.old shred.new) }
     ensures stays { IfOk result (λ then. Stays then shred.old shred.new) }
 {
@@ -89,12 +91,13 @@ pub(crate) fn pass_items(
 /// Stores the operand on the top in the item of the index beneath it, where the array beneath both
 /// has that item, and puts the next index in the place of the two.
 pub(crate) fn fill(shred: &mut Shred, world: &mut World, place: Place) -> Result<Then, Memory>
-    requires operands { IsFitting (of_three (operands_of shred.old)
-        (filled (store_of world.old))) }
+    requires operands { CanDo world.old
+        (λ store. of_three (operands_of shred.old) (filled store)) }
     requires place { next_place shred.old < 2 ^ 64 - 1 }
-    ensures follows { (code : CodeParts) (acts : List Act) →
-        let effect = effect_of code Fill place shred.old world.old acts in
-        IfOk result (λ then. Matches then effect place shred.new world.new acts) }
+    ensures follows { (code : CodeParts) (acts : List Act) (store : Store) →
+        StandsFor world.old store →
+        let effect = effect_of code Fill place shred.old store acts in
+        IfOk result (λ then. Follows then effect place shred.new world.new acts) }
     ensures same { OnOk result (IsSame shred.old shred.new) }
     ensures stays { IfOk result (λ then. Stays then shred.old shred.new) }
     ensures ran { OnOk result (world.new.ran ≡ world.old.ran) }
@@ -111,12 +114,13 @@ pub(crate) fn fill(shred: &mut Shred, world: &mut World, place: Place) -> Result
 /// Puts the number of items in the place of an array; null is a trap.
 #[tactic(auto, unfolding(ck_store::specs::Natives::native))]
 pub(crate) fn put_size(shred: &mut Shred, world: &World, place: Place) -> Result<Then, Memory>
-    requires operand { IsFitting (of_top (operands_of shred.old)
-        (item_count (store_of world.now).objects)) }
+    requires operand { CanDo world.now
+        (λ store. of_top (operands_of shred.old) (item_count store.objects)) }
     requires place { next_place shred.old < 2 ^ 64 - 1 }
-    ensures follows { (code : CodeParts) (acts : List Act) →
-        let effect = effect_of code (BuiltIn Size) place shred.old world.now acts in
-        IfOk result (λ then. Matches then effect place shred.new world.now acts) }
+    ensures follows { (code : CodeParts) (acts : List Act) (store : Store) →
+        StandsFor world.now store →
+        let effect = effect_of code (BuiltIn Size) place shred.old store acts in
+        IfOk result (λ then. Matches then effect place shred.new store acts) }
     ensures same { OnOk result (IsSame shred.old shred.new) }
     ensures stays { IfOk result (λ then. Stays then shred.old shred.new) }
 {
@@ -130,11 +134,13 @@ pub(crate) fn put_size(shred: &mut Shred, world: &World, place: Place) -> Result
 /// Takes all items out of an array, in whose place the int 0 comes; null is a trap.
 #[tactic(auto, unfolding(ck_store::specs::Natives::native))]
 pub(crate) fn clear(shred: &mut Shred, world: &mut World, place: Place) -> Result<Then, Memory>
-    requires operand { IsFitting (of_top (operands_of shred.old) (cleared (store_of world.old))) }
+    requires operand { CanDo world.old
+        (λ store. of_top (operands_of shred.old) (cleared store)) }
     requires place { next_place shred.old < 2 ^ 64 - 1 }
-    ensures follows { (code : CodeParts) (acts : List Act) →
-        let effect = effect_of code (BuiltIn Clear) place shred.old world.old acts in
-        IfOk result (λ then. Matches then effect place shred.new world.new acts) }
+    ensures follows { (code : CodeParts) (acts : List Act) (store : Store) →
+        StandsFor world.old store →
+        let effect = effect_of code (BuiltIn Clear) place shred.old store acts in
+        IfOk result (λ then. Follows then effect place shred.new world.new acts) }
     ensures same { OnOk result (IsSame shred.old shred.new) }
     ensures stays { IfOk result (λ then. Stays then shred.old shred.new) }
     ensures ran { OnOk result (world.new.ran ≡ world.old.ran) }

@@ -4,12 +4,11 @@ ghost use Rattle.ck_values.specs.Datum.{meant};
 ghost use Rattle.ck_code.specs.declared.code.CodeParts.{CodeParts};
 ghost use Rattle.ck_code.specs.declared.instr.Instr.TheVariants.{WaitEvent, Native as BuiltIn};
 ghost use Rattle.ck_store.specs.Shreds.{event_of};
-ghost use Rattle.ck_store.specs.Store.{Gives, Fails, IsFitting};
+ghost use Rattle.ck_store.specs.Store.{Store, Gives, Fails, IsFitting};
 ghost use Rattle.ck_typed.specs.declared.native.Native.TheVariants.{Signal, Broadcast};
 ghost use Rattle.machine_world.specs.declared.acts.Act.{Act as Recorded};
 ghost use Rattle.machine_world.specs.Shown.{operands_of, next_place};
 ghost use Rattle.machine_world.specs.Steps.{effect_of, of_top, Matches, Stays, IsSame};
-ghost use Rattle.machine_world.specs.Worlds.{Parts};
 
 use ck_values::{Place, Ref, Trap, Value};
 use fixed_point::Memory;
@@ -40,9 +39,9 @@ fn event(v: &Value) -> Result<Ref, Trap>
 pub(crate) fn wait_for_event(shred: &mut Shred, place: Place) -> Then
     requires operand { IsFitting (of_top (operands_of shred.old) event_of) }
     requires place { next_place shred.old < 2 ^ 64 - 1 }
-    ensures follows { (code : CodeParts) (world : Parts) (acts : List Recorded) →
-        let effect = effect_of code WaitEvent place shred.old world acts in
-        Matches result effect place shred.new world acts }
+    ensures follows { (code : CodeParts) (store : Store) (acts : List Recorded) →
+        let effect = effect_of code WaitEvent place shred.old store acts in
+        Matches result effect place shred.new store acts }
     ensures same { IsSame shred.old shred.new }
     ensures stays { Stays result shred.old shred.new }
 {
@@ -60,9 +59,9 @@ pub(crate) fn wait_for_event(shred: &mut Shred, place: Place) -> Then
 pub(crate) fn signal(shred: &mut Shred, acts: &mut Acts, place: Place) -> Result<Then, Memory>
     requires operand { IsFitting (of_top (operands_of shred.old) event_of) }
     requires place { next_place shred.old < 2 ^ 64 - 1 }
-    ensures follows { (code : CodeParts) (world : Parts) →
-        let effect = effect_of code (BuiltIn Signal) place shred.old world acts.old in
-        IfOk result (λ then. Matches then effect place shred.new world acts.new) }
+    ensures follows { (code : CodeParts) (store : Store) →
+        let effect = effect_of code (BuiltIn Signal) place shred.old store acts.old in
+        IfOk result (λ then. Matches then effect place shred.new store acts.new) }
     ensures same { OnOk result (IsSame shred.old shred.new) }
     ensures stays { IfOk result (λ then. Stays then shred.old shred.new) }
 {
@@ -80,9 +79,9 @@ pub(crate) fn signal(shred: &mut Shred, acts: &mut Acts, place: Place) -> Result
 pub(crate) fn broadcast(shred: &mut Shred, acts: &mut Acts, place: Place) -> Result<Then, Memory>
     requires operand { IsFitting (of_top (operands_of shred.old) event_of) }
     requires place { next_place shred.old < 2 ^ 64 - 1 }
-    ensures follows { (code : CodeParts) (world : Parts) →
-        let effect = effect_of code (BuiltIn Broadcast) place shred.old world acts.old in
-        IfOk result (λ then. Matches then effect place shred.new world acts.new) }
+    ensures follows { (code : CodeParts) (store : Store) →
+        let effect = effect_of code (BuiltIn Broadcast) place shred.old store acts.old in
+        IfOk result (λ then. Matches then effect place shred.new store acts.new) }
     ensures same { OnOk result (IsSame shred.old shred.new) }
     ensures stays { IfOk result (λ then. Stays then shred.old shred.new) }
 {

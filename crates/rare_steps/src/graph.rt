@@ -6,13 +6,14 @@ ghost use Rattle.ck_code.specs.declared.code.CodeParts.{CodeParts};
 ghost use Rattle.ck_code.specs.declared.instr.Instr.TheVariants.{Ugen, Connect, Disconnect};
 ghost use Rattle.ck_code.specs.declared.instr.Instr.TheVariants.{Param as ReadParam, SetParam};
 ghost use Rattle.ck_store.specs.Graph.{connected, disconnected, parameter_of, parameter_set};
-ghost use Rattle.ck_store.specs.Store.{IsFitting};
+ghost use Rattle.ck_store.specs.Store.{Store};
 ghost use Rattle.machine_world.specs.declared.acts.Act.{Act};
 ghost use Rattle.machine_world.specs.declared.course.Then.TheVariants.{GoesOn};
 ghost use Rattle.machine_world.specs.Shown.{shown, locals_of, operands_of, next_place};
 ghost use Rattle.machine_world.specs.Steps.{effect_of, next_with, of_top, of_two, Matches, Stays};
-ghost use Rattle.machine_world.specs.Steps.{IsSame};
-ghost use Rattle.machine_world.specs.Worlds.{store_of};
+ghost use Rattle.machine_world.specs.Steps.{Follows, IsSame};
+ghost use Rattle.machine_world.specs.Tries.{CanDo};
+ghost use Rattle.machine_world.specs.Worlds.{StandsFor};
 
 use ck_values::{Place, Ref, Value};
 use fixed_point::Memory;
@@ -53,9 +54,10 @@ pub(crate) fn make_unit(
 ) -> Result<Then, Memory>
     requires made { IsMade kind }
     requires place { next_place shred.old < 2 ^ 64 - 1 }
-    ensures follows { (code : CodeParts) (acts : List Act) →
-        let effect = effect_of code (Ugen kind) place shred.old world.old acts in
-        IfOk result (λ then. Matches then effect place shred.new world.new acts) }
+    ensures follows { (code : CodeParts) (acts : List Act) (store : Store) →
+        StandsFor world.old store →
+        let effect = effect_of code (Ugen kind) place shred.old store acts in
+        IfOk result (λ then. Follows then effect place shred.new world.new acts) }
     ensures same { OnOk result (IsSame shred.old shred.new) }
     ensures stays { IfOk result (λ then. Stays then shred.old shred.new) }
     ensures ran { OnOk result (world.new.ran ≡ world.old.ran) }
@@ -71,12 +73,13 @@ pub(crate) fn make_unit(
 /// Connects the unit generator beneath the top to the one on the top, which stays alone, or stops
 /// by the trap.
 pub(crate) fn connect(shred: &mut Shred, world: &mut World, place: Place) -> Result<Then, Memory>
-    requires operands { IsFitting (of_two (operands_of shred.old)
-        (λ from to. connected from to (store_of world.old))) }
+    requires operands { CanDo world.old
+        (λ store. of_two (operands_of shred.old) (λ from to. connected from to store)) }
     requires place { next_place shred.old < 2 ^ 64 - 1 }
-    ensures follows { (code : CodeParts) (acts : List Act) →
-        let effect = effect_of code Connect place shred.old world.old acts in
-        IfOk result (λ then. Matches then effect place shred.new world.new acts) }
+    ensures follows { (code : CodeParts) (acts : List Act) (store : Store) →
+        StandsFor world.old store →
+        let effect = effect_of code Connect place shred.old store acts in
+        IfOk result (λ then. Follows then effect place shred.new world.new acts) }
     ensures same { OnOk result (IsSame shred.old shred.new) }
     ensures stays { IfOk result (λ then. Stays then shred.old shred.new) }
     ensures ran { OnOk result (world.new.ran ≡ world.old.ran) }
@@ -93,12 +96,13 @@ pub(crate) fn connect(shred: &mut Shred, world: &mut World, place: Place) -> Res
 /// Takes out the earliest connection from the unit generator beneath the top to the one on the top,
 /// which stays alone, or stops by the trap.
 pub(crate) fn disconnect(shred: &mut Shred, world: &mut World, place: Place) -> Result<Then, Memory>
-    requires operands { IsFitting (of_two (operands_of shred.old)
-        (λ from to. disconnected from to (store_of world.old))) }
+    requires operands { CanDo world.old
+        (λ store. of_two (operands_of shred.old) (λ from to. disconnected from to store)) }
     requires place { next_place shred.old < 2 ^ 64 - 1 }
-    ensures follows { (code : CodeParts) (acts : List Act) →
-        let effect = effect_of code Disconnect place shred.old world.old acts in
-        IfOk result (λ then. Matches then effect place shred.new world.new acts) }
+    ensures follows { (code : CodeParts) (acts : List Act) (store : Store) →
+        StandsFor world.old store →
+        let effect = effect_of code Disconnect place shred.old store acts in
+        IfOk result (λ then. Follows then effect place shred.new world.new acts) }
     ensures same { OnOk result (IsSame shred.old shred.new) }
     ensures stays { IfOk result (λ then. Stays then shred.old shred.new) }
     ensures ran { OnOk result (world.new.ran ≡ world.old.ran) }
@@ -118,12 +122,13 @@ pub(crate) fn put_parameter(
     p: Param,
     place: Place,
 ) -> Result<Then, Memory>
-    requires operand { IsFitting (of_top (operands_of shred.old)
-        (λ unit. parameter_of p unit (store_of world.now))) }
+    requires operand { CanDo world.now
+        (λ store. of_top (operands_of shred.old) (λ unit. parameter_of p unit store)) }
     requires place { next_place shred.old < 2 ^ 64 - 1 }
-    ensures follows { (code : CodeParts) (acts : List Act) →
-        let effect = effect_of code (ReadParam p) place shred.old world.now acts in
-        IfOk result (λ then. Matches then effect place shred.new world.now acts) }
+    ensures follows { (code : CodeParts) (acts : List Act) (store : Store) →
+        StandsFor world.now store →
+        let effect = effect_of code (ReadParam p) place shred.old store acts in
+        IfOk result (λ then. Matches then effect place shred.new store acts) }
     ensures same { OnOk result (IsSame shred.old shred.new) }
     ensures stays { IfOk result (λ then. Stays then shred.old shred.new) }
 {
@@ -143,12 +148,13 @@ pub(crate) fn set_parameter(
     p: Param,
     place: Place,
 ) -> Result<Then, Memory>
-    requires operands { IsFitting (of_two (operands_of shred.old)
-        (λ unit v. parameter_set p unit v (store_of world.old))) }
+    requires operands { CanDo world.old
+        (λ store. of_two (operands_of shred.old) (λ unit v. parameter_set p unit v store)) }
     requires place { next_place shred.old < 2 ^ 64 - 1 }
-    ensures follows { (code : CodeParts) (acts : List Act) →
-        let effect = effect_of code (SetParam p) place shred.old world.old acts in
-        IfOk result (λ then. Matches then effect place shred.new world.new acts) }
+    ensures follows { (code : CodeParts) (acts : List Act) (store : Store) →
+        StandsFor world.old store →
+        let effect = effect_of code (SetParam p) place shred.old store acts in
+        IfOk result (λ then. Follows then effect place shred.new world.new acts) }
     ensures same { OnOk result (IsSame shred.old shred.new) }
     ensures stays { IfOk result (λ then. Stays then shred.old shred.new) }
     ensures ran { OnOk result (world.new.ran ≡ world.old.ran) }

@@ -3,13 +3,14 @@ ghost use Rattle.std.specs.Prelude.{◌≡◌, List, ◌-◌, ◌^◌, ◌<◌, 
 ghost use Rattle.ck_code.specs.declared.code.CodeParts.{CodeParts};
 ghost use Rattle.ck_code.specs.declared.instr.Instr.TheVariants.{Native as BuiltIn};
 ghost use Rattle.ck_store.specs.Graph.{unit_keyed};
-ghost use Rattle.ck_store.specs.Store.{IsFitting};
+ghost use Rattle.ck_store.specs.Store.{Store};
 ghost use Rattle.ck_typed.specs.declared.native.Native.TheVariants.{SetAdsr};
 ghost use Rattle.machine_world.specs.declared.acts.Act.{Act};
 ghost use Rattle.rare_steps.specs.Keys.{key_call, key_where_call, keyed_where, staged_by};
 ghost use Rattle.machine_world.specs.Shown.{operands_of, next_place};
-ghost use Rattle.machine_world.specs.Steps.{effect_of, of_top, of_two, Matches, Stays, IsSame};
-ghost use Rattle.machine_world.specs.Worlds.{store_of};
+ghost use Rattle.machine_world.specs.Steps.{effect_of, of_top, of_two, Follows, Stays, IsSame};
+ghost use Rattle.machine_world.specs.Tries.{CanDo};
+ghost use Rattle.machine_world.specs.Worlds.{StandsFor};
 
 use ck_values::{Place, Value};
 use fixed_point::Memory;
@@ -25,12 +26,13 @@ pub(crate) fn key(
     is_on: bool,
     place: Place,
 ) -> Result<Then, Memory>
-    requires operand { IsFitting (of_top (operands_of shred.old)
-        (λ u. unit_keyed is_on u (store_of world.old))) }
+    requires operand { CanDo world.old
+        (λ store. of_top (operands_of shred.old) (λ u. unit_keyed is_on u store)) }
     requires place { next_place shred.old < 2 ^ 64 - 1 }
-    ensures follows { (code : CodeParts) (acts : List Act) →
-        let effect = effect_of code (BuiltIn (key_call is_on)) place shred.old world.old acts in
-        IfOk result (λ then. Matches then effect place shred.new world.new acts) }
+    ensures follows { (code : CodeParts) (acts : List Act) (store : Store) →
+        StandsFor world.old store →
+        let effect = effect_of code (BuiltIn (key_call is_on)) place shred.old store acts in
+        IfOk result (λ then. Follows then effect place shred.new world.new acts) }
     ensures same { OnOk result (IsSame shred.old shred.new) }
     ensures stays { IfOk result (λ then. Stays then shred.old shred.new) }
     ensures ran { OnOk result (world.new.ran ≡ world.old.ran) }
@@ -51,13 +53,13 @@ pub(crate) fn key_where(
     is_on: bool,
     place: Place,
 ) -> Result<Then, Memory>
-    requires operands { IsFitting (of_two (operands_of shred.old)
-        (λ u n. keyed_where is_on u n (store_of world.old))) }
+    requires operands { CanDo world.old
+        (λ store. of_two (operands_of shred.old) (λ u n. keyed_where is_on u n store)) }
     requires place { next_place shred.old < 2 ^ 64 - 1 }
-    ensures follows { (code : CodeParts) (acts : List Act) →
-        let call = BuiltIn (key_where_call is_on) in
-        let effect = effect_of code call place shred.old world.old acts in
-        IfOk result (λ then. Matches then effect place shred.new world.new acts) }
+    ensures follows { (code : CodeParts) (acts : List Act) (store : Store) →
+        StandsFor world.old store → let call = BuiltIn (key_where_call is_on) in
+        let effect = effect_of code call place shred.old store acts in
+        IfOk result (λ then. Follows then effect place shred.new world.new acts) }
     ensures same { OnOk result (IsSame shred.old shred.new) }
     ensures stays { IfOk result (λ then. Stays then shred.old shred.new) }
     ensures ran { OnOk result (world.new.ran ≡ world.old.ran) }
@@ -74,11 +76,12 @@ pub(crate) fn key_where(
 /// trap.
 #[tactic(auto, unfolding(ck_store::specs::Natives::native))]
 pub(crate) fn set_stages(shred: &mut Shred, world: &mut World, place: Place) -> Result<Then, Memory>
-    requires operands { IsFitting (staged_by (operands_of shred.old) (store_of world.old)) }
+    requires operands { CanDo world.old (staged_by (operands_of shred.old)) }
     requires place { next_place shred.old < 2 ^ 64 - 1 }
-    ensures follows { (code : CodeParts) (acts : List Act) →
-        let effect = effect_of code (BuiltIn SetAdsr) place shred.old world.old acts in
-        IfOk result (λ then. Matches then effect place shred.new world.new acts) }
+    ensures follows { (code : CodeParts) (acts : List Act) (store : Store) →
+        StandsFor world.old store →
+        let effect = effect_of code (BuiltIn SetAdsr) place shred.old store acts in
+        IfOk result (λ then. Follows then effect place shred.new world.new acts) }
     ensures same { OnOk result (IsSame shred.old shred.new) }
     ensures stays { IfOk result (λ then. Stays then shred.old shred.new) }
     ensures ran { OnOk result (world.new.ran ≡ world.old.ran) }

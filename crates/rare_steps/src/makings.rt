@@ -7,12 +7,13 @@ ghost use Rattle.ck_code.specs.declared.instr.Instr.TheVariants.{New, Row, Grid}
 ghost use Rattle.ck_code.specs.Machine.{taken, makes_array};
 ghost use Rattle.ck_store.specs.Arrays.{row_made, grid_made};
 ghost use Rattle.ck_store.specs.Objects.{object_made};
-ghost use Rattle.ck_store.specs.Store.{IsFitting};
+ghost use Rattle.ck_store.specs.Store.{Store, IsFitting};
 ghost use Rattle.machine_world.specs.declared.acts.Act.{Act};
 ghost use Rattle.machine_world.specs.Shown.{shown, operands_of, next_place, with_operands};
-ghost use Rattle.machine_world.specs.Steps.{effect_of, action_on, of_top, of_two, Matches, Stays};
+ghost use Rattle.machine_world.specs.Steps.{effect_of, action_on, of_top, of_two, Follows, Stays};
 ghost use Rattle.machine_world.specs.Steps.{IsSame};
-ghost use Rattle.machine_world.specs.Worlds.{store_of};
+ghost use Rattle.machine_world.specs.Tries.{CanDo};
+ghost use Rattle.machine_world.specs.Worlds.{StandsFor};
 
 use ck_base::List;
 use ck_code::CodeParts;
@@ -33,11 +34,11 @@ pub(crate) fn make(
     class: u32,
     place: Place,
 ) -> Result<Then, Memory>
-    requires class { IsFitting (object_made code.now.classes class (store_of world.old)) }
+    requires class { CanDo world.old (object_made code.now.classes class) }
     requires place { next_place shred.old < 2 ^ 64 - 1 }
-    ensures follows { (acts : List Act) →
-        let effect = effect_of code.now (New class) place shred.old world.old acts in
-        IfOk result (λ then. Matches then effect place shred.new world.new acts) }
+    ensures follows { (acts : List Act) (store : Store) → StandsFor world.old store →
+        let effect = effect_of code.now (New class) place shred.old store acts in
+        IfOk result (λ then. Follows then effect place shred.new world.new acts) }
     ensures same { OnOk result (IsSame shred.old shred.new) }
     ensures stays { IfOk result (λ then. Stays then shred.old shred.new) }
     ensures ran { OnOk result (world.new.ran ≡ world.old.ran) }
@@ -57,12 +58,13 @@ pub(crate) fn make_row(
     elem: Elem,
     place: Place,
 ) -> Result<Then, Memory>
-    requires operand { IsFitting (of_top (operands_of shred.old)
-        (λ n. row_made elem n (store_of world.old))) }
+    requires operand { CanDo world.old
+        (λ store. of_top (operands_of shred.old) (λ n. row_made elem n store)) }
     requires place { next_place shred.old < 2 ^ 64 - 1 }
-    ensures follows { (code : CodeParts) (acts : List Act) →
-        let effect = effect_of code (Row elem) place shred.old world.old acts in
-        IfOk result (λ then. Matches then effect place shred.new world.new acts) }
+    ensures follows { (code : CodeParts) (acts : List Act) (store : Store) →
+        StandsFor world.old store →
+        let effect = effect_of code (Row elem) place shred.old store acts in
+        IfOk result (λ then. Follows then effect place shred.new world.new acts) }
     ensures same { OnOk result (IsSame shred.old shred.new) }
     ensures stays { IfOk result (λ then. Stays then shred.old shred.new) }
     ensures ran { OnOk result (world.new.ran ≡ world.old.ran) }
@@ -83,12 +85,13 @@ pub(crate) fn make_grid(
     elem: Elem,
     place: Place,
 ) -> Result<Then, Memory>
-    requires operands { IsFitting (of_two (operands_of shred.old)
-        (λ n m. (grid_made elem n m (store_of world.old)).end)) }
+    requires operands { CanDo world.old
+        (λ store. of_two (operands_of shred.old) (λ n m. (grid_made elem n m store).end)) }
     requires place { next_place shred.old < 2 ^ 64 - 1 }
-    ensures follows { (code : CodeParts) (acts : List Act) →
-        let effect = effect_of code (Grid elem) place shred.old world.old acts in
-        IfOk result (λ then. Matches then effect place shred.new world.new acts) }
+    ensures follows { (code : CodeParts) (acts : List Act) (store : Store) →
+        StandsFor world.old store →
+        let effect = effect_of code (Grid elem) place shred.old store acts in
+        IfOk result (λ then. Follows then effect place shred.new world.new acts) }
     ensures same { OnOk result (IsSame shred.old shred.new) }
     ensures stays { IfOk result (λ then. Stays then shred.old shred.new) }
     ensures ran { OnOk result (world.new.ran ≡ world.old.ran) }
@@ -115,9 +118,9 @@ pub(crate) fn make_array(
 ) -> Result<Then, Memory>
     requires operands { IsFitting (taken n [] (operands_of shred.old)) }
     requires place { next_place shred.old < 2 ^ 64 - 1 }
-    ensures follows { (acts : List Act) →
-        let effect = action_on (makes_array place elem two n) shred.old world.old acts in
-        IfOk result (λ then. Matches then effect place shred.new world.new acts) }
+    ensures follows { (acts : List Act) (store : Store) → StandsFor world.old store →
+        let effect = action_on (makes_array place elem two n) shred.old store acts in
+        IfOk result (λ then. Follows then effect place shred.new world.new acts) }
     ensures same { OnOk result (IsSame shred.old shred.new) }
     ensures stays { IfOk result (λ then. Stays then shred.old shred.new) }
     ensures ran { OnOk result (world.new.ran ≡ world.old.ran) }

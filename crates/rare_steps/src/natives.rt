@@ -6,15 +6,16 @@ ghost use Rattle.ck_code.specs.declared.code.CodeParts.{CodeParts};
 ghost use Rattle.ck_code.specs.declared.instr.Instr.TheVariants.{Native as BuiltIn};
 ghost use Rattle.ck_store.specs.Operators.{with_both, int_in, float_in, string_in};
 ghost use Rattle.ck_store.specs.Steps.{and_then};
-ghost use Rattle.ck_store.specs.Store.{IsFitting};
+ghost use Rattle.ck_store.specs.Store.{Store, IsFitting};
 ghost use Rattle.ck_store.specs.Strings.{char_at, substring};
 ghost use Rattle.ck_typed.specs.declared.native.Native.TheVariants.{Length, CharAt, Substring, Abs};
 ghost use Rattle.ck_typed.specs.declared.native.Native.TheVariants.{Fabs};
 ghost use Rattle.machine_world.specs.declared.acts.Act.{Act};
 ghost use Rattle.machine_world.specs.Shown.{operands_of, next_place};
 ghost use Rattle.machine_world.specs.Steps.{effect_of, state_of, of_top, of_two, of_three, called};
-ghost use Rattle.machine_world.specs.Steps.{Matches, Stays, IsSame};
-ghost use Rattle.machine_world.specs.Worlds.{Parts};
+ghost use Rattle.machine_world.specs.Steps.{Matches, Follows, Stays, IsSame};
+ghost use Rattle.machine_world.specs.Tries.{CanDo};
+ghost use Rattle.machine_world.specs.Worlds.{StandsFor};
 
 use crate::arrays::{clear, put_size};
 use crate::events::{broadcast, signal};
@@ -39,12 +40,12 @@ pub(crate) fn call_native(
     call: Native,
     place: Place,
 ) -> Result<Then, Memory>
-    requires operands { IsFitting
-        (called call (operands_of shred.old) (state_of shred.old world.old acts.old)) }
+    requires operands { CanDo world.old (λ store.
+        called call (operands_of shred.old) (state_of shred.old store acts.old)) }
     requires place { next_place shred.old < 2 ^ 64 - 1 }
-    ensures follows { (code : CodeParts) →
-        let effect = effect_of code (BuiltIn call) place shred.old world.old acts.old in
-        IfOk result (λ then. Matches then effect place shred.new world.new acts.new) }
+    ensures follows { (code : CodeParts) (store : Store) → StandsFor world.old store →
+        let effect = effect_of code (BuiltIn call) place shred.old store acts.old in
+        IfOk result (λ then. Follows then effect place shred.new world.new acts.new) }
     ensures same { OnOk result (IsSame shred.old shred.new) }
     ensures stays { IfOk result (λ then. Stays then shred.old shred.new) }
     ensures ran { OnOk result (world.new.ran ≡ world.old.ran) }
@@ -88,9 +89,9 @@ fn string(v: &Value) -> &Text
 fn put_magnitude(shred: &mut Shred) -> Result<Then, Memory>
     requires operand { IsFitting (of_top (operands_of shred.old) int_in) }
     requires place { next_place shred.old < 2 ^ 64 - 1 }
-    ensures follows { (code : CodeParts) (place : Place) (world : Parts) (acts : List Act) →
-        let effect = effect_of code (BuiltIn Abs) place shred.old world acts in
-        IfOk result (λ then. Matches then effect place shred.new world acts) }
+    ensures follows { (code : CodeParts) (place : Place) (store : Store) (acts : List Act) →
+        let effect = effect_of code (BuiltIn Abs) place shred.old store acts in
+        IfOk result (λ then. Matches then effect place shred.new store acts) }
     ensures same { OnOk result (IsSame shred.old shred.new) }
     ensures stays { IfOk result (λ then. Stays then shred.old shred.new) }
 {
@@ -103,9 +104,9 @@ fn put_magnitude(shred: &mut Shred) -> Result<Then, Memory>
 fn put_fix_magnitude(shred: &mut Shred) -> Result<Then, Memory>
     requires operand { IsFitting (of_top (operands_of shred.old) float_in) }
     requires place { next_place shred.old < 2 ^ 64 - 1 }
-    ensures follows { (code : CodeParts) (place : Place) (world : Parts) (acts : List Act) →
-        let effect = effect_of code (BuiltIn Fabs) place shred.old world acts in
-        IfOk result (λ then. Matches then effect place shred.new world acts) }
+    ensures follows { (code : CodeParts) (place : Place) (store : Store) (acts : List Act) →
+        let effect = effect_of code (BuiltIn Fabs) place shred.old store acts in
+        IfOk result (λ then. Matches then effect place shred.new store acts) }
     ensures same { OnOk result (IsSame shred.old shred.new) }
     ensures stays { IfOk result (λ then. Stays then shred.old shred.new) }
 {
@@ -118,9 +119,9 @@ fn put_fix_magnitude(shred: &mut Shred) -> Result<Then, Memory>
 fn put_length(shred: &mut Shred) -> Result<Then, Memory>
     requires operand { IsFitting (of_top (operands_of shred.old) string_in) }
     requires place { next_place shred.old < 2 ^ 64 - 1 }
-    ensures follows { (code : CodeParts) (place : Place) (world : Parts) (acts : List Act) →
-        let effect = effect_of code (BuiltIn Length) place shred.old world acts in
-        IfOk result (λ then. Matches then effect place shred.new world acts) }
+    ensures follows { (code : CodeParts) (place : Place) (store : Store) (acts : List Act) →
+        let effect = effect_of code (BuiltIn Length) place shred.old store acts in
+        IfOk result (λ then. Matches then effect place shred.new store acts) }
     ensures same { OnOk result (IsSame shred.old shred.new) }
     ensures stays { IfOk result (λ then. Stays then shred.old shred.new) }
 {
@@ -135,9 +136,9 @@ fn put_byte(shred: &mut Shred, place: Place) -> Result<Then, Memory>
     requires operands { IsFitting (of_two (operands_of shred.old)
         (λ text index. with_both (string_in text) (int_in index) char_at)) }
     requires place { next_place shred.old < 2 ^ 64 - 1 }
-    ensures follows { (code : CodeParts) (world : Parts) (acts : List Act) →
-        let effect = effect_of code (BuiltIn CharAt) place shred.old world acts in
-        IfOk result (λ then. Matches then effect place shred.new world acts) }
+    ensures follows { (code : CodeParts) (store : Store) (acts : List Act) →
+        let effect = effect_of code (BuiltIn CharAt) place shred.old store acts in
+        IfOk result (λ then. Matches then effect place shred.new store acts) }
     ensures same { OnOk result (IsSame shred.old shred.new) }
     ensures stays { IfOk result (λ then. Stays then shred.old shred.new) }
 {
@@ -157,9 +158,9 @@ fn put_substring(alloc: Global, shred: &mut Shred, place: Place) -> Result<Then,
         (λ text start count. and_then (string_in text)
         (λ bytes. with_both (int_in start) (int_in count) (substring bytes)))) }
     requires place { next_place shred.old < 2 ^ 64 - 1 }
-    ensures follows { (code : CodeParts) (world : Parts) (acts : List Act) →
-        let effect = effect_of code (BuiltIn Substring) place shred.old world acts in
-        IfOk result (λ then. Matches then effect place shred.new world acts) }
+    ensures follows { (code : CodeParts) (store : Store) (acts : List Act) →
+        let effect = effect_of code (BuiltIn Substring) place shred.old store acts in
+        IfOk result (λ then. Matches then effect place shred.new store acts) }
     ensures same { OnOk result (IsSame shred.old shred.new) }
     ensures stays { IfOk result (λ then. Stays then shred.old shred.new) }
 {

@@ -5,12 +5,11 @@ ghost use Rattle.ck_code.specs.declared.code.CodeParts.{CodeParts};
 ghost use Rattle.ck_code.specs.declared.instr.Instr.TheVariants.{Swap};
 ghost use Rattle.ck_code.specs.Machine.{text_at};
 ghost use Rattle.ck_store.specs.Steps.{float_units};
-ghost use Rattle.ck_store.specs.Store.{IsFitting};
+ghost use Rattle.ck_store.specs.Store.{Store, IsFitting};
 ghost use Rattle.machine_world.specs.declared.acts.Act.{Act};
 ghost use Rattle.machine_world.specs.declared.course.Then.TheVariants.{GoesOn};
 ghost use Rattle.machine_world.specs.Shown.{operands_of, next_place};
 ghost use Rattle.machine_world.specs.Steps.{effect_of, of_top, IsPut, Matches, Stays, IsSame};
-ghost use Rattle.machine_world.specs.Worlds.{Parts};
 
 use ck_code::CodeParts;
 use ck_values::{Place, Value};
@@ -41,9 +40,9 @@ pub(crate) fn put_text(
 pub(crate) fn exchange(shred: &mut Shred) -> Result<Then, Memory>
     requires operands { 1 < length (operands_of shred.old) }
     requires place { next_place shred.old < 2 ^ 64 - 1 }
-    ensures follows { (code : CodeParts) (place : Place) (world : Parts) (acts : List Act) →
-        let effect = effect_of code Swap place shred.old world acts in
-        IfOk result (λ then. Matches then effect place shred.new world acts) }
+    ensures follows { (code : CodeParts) (place : Place) (store : Store) (acts : List Act) →
+        let effect = effect_of code Swap place shred.old store acts in
+        IfOk result (λ then. Matches then effect place shred.new store acts) }
     ensures same { OnOk result (IsSame shred.old shred.new) }
     ensures stays { IfOk result (λ then. Stays then shred.old shred.new) }
 {

@@ -6,11 +6,10 @@ ghost use Rattle.ck_values.specs.Datum.{meant};
 ghost use Rattle.ck_code.specs.declared.instr.Instr.TheVariants.{Print};
 ghost use Rattle.ck_code.specs.Machine.{taken};
 ghost use Rattle.ck_store.specs.Prints.{print_line, spaced, kind_name};
-ghost use Rattle.ck_store.specs.Store.{IsFitting};
+ghost use Rattle.ck_store.specs.Store.{Store, IsFitting};
 ghost use Rattle.ck_store.specs.Strings.{printed};
 ghost use Rattle.machine_world.specs.Shown.{shown, operands_of, next_place, with_operands};
 ghost use Rattle.machine_world.specs.Steps.{effect_of, Matches, Stays, IsSame};
-ghost use Rattle.machine_world.specs.Worlds.{Parts};
 
 use ck_base::List;
 use ck_code::CodeParts;
@@ -33,9 +32,9 @@ pub(crate) fn print(
 ) -> Result<Then, Memory>
     requires operands { IsFitting (taken (length kinds.now) [] (operands_of shred.old)) }
     requires place { next_place shred.old < 2 ^ 64 - 1 }
-    ensures follows { (place : Place) (world : Parts) →
-        let effect = effect_of code.now (Print kinds.now) place shred.old world acts.old in
-        IfOk result (λ then. Matches then effect place shred.new world acts.new) }
+    ensures follows { (place : Place) (store : Store) →
+        let effect = effect_of code.now (Print kinds.now) place shred.old store acts.old in
+        IfOk result (λ then. Matches then effect place shred.new store acts.new) }
     ensures same { OnOk result (IsSame shred.old shred.new) }
     ensures stays { IfOk result (λ then. Stays then shred.old shred.new) }
 {

@@ -4,11 +4,12 @@ ghost use Rattle.ck_values.specs.declared.trap.Place.{Place};
 ghost use Rattle.ck_code.specs.declared.code.CodeParts.{CodeParts};
 ghost use Rattle.ck_code.specs.declared.instr.Instr.TheVariants.{Native as BuiltIn};
 ghost use Rattle.ck_store.specs.Operators.{int_in, float_in};
-ghost use Rattle.ck_store.specs.Store.{IsFitting};
+ghost use Rattle.ck_store.specs.Store.{Store, IsFitting};
 ghost use Rattle.ck_typed.specs.declared.native.Native.TheVariants.{Random2, Random2f, Srandom};
 ghost use Rattle.machine_world.specs.declared.acts.Act.{Act};
 ghost use Rattle.machine_world.specs.Shown.{operands_of, next_place};
-ghost use Rattle.machine_world.specs.Steps.{effect_of, of_top, both_of, Matches, Stays, IsSame};
+ghost use Rattle.machine_world.specs.Steps.{effect_of, of_top, both_of, Follows, Stays, IsSame};
+ghost use Rattle.machine_world.specs.Worlds.{StandsFor};
 
 use ck_values::Value;
 use fixed_point::Memory;
@@ -20,9 +21,10 @@ use shred_state::Shred;
 pub(crate) fn put_random(shred: &mut Shred, world: &mut World) -> Result<Then, Memory>
     requires operands { IsFitting (both_of int_in (operands_of shred.old)) }
     requires place { next_place shred.old < 2 ^ 64 - 1 }
-    ensures follows { (code : CodeParts) (place : Place) (acts : List Act) →
-        let effect = effect_of code (BuiltIn Random2) place shred.old world.old acts in
-        IfOk result (λ then. Matches then effect place shred.new world.new acts) }
+    ensures follows { (code : CodeParts) (place : Place) (acts : List Act) (store : Store) →
+        StandsFor world.old store →
+        let effect = effect_of code (BuiltIn Random2) place shred.old store acts in
+        IfOk result (λ then. Follows then effect place shred.new world.new acts) }
     ensures same { OnOk result (IsSame shred.old shred.new) }
     ensures stays { IfOk result (λ then. Stays then shred.old shred.new) }
     ensures ran { OnOk result (world.new.ran ≡ world.old.ran) }
@@ -38,9 +40,10 @@ pub(crate) fn put_random(shred: &mut Shred, world: &mut World) -> Result<Then, M
 pub(crate) fn put_random_fix(shred: &mut Shred, world: &mut World) -> Result<Then, Memory>
     requires operands { IsFitting (both_of float_in (operands_of shred.old)) }
     requires place { next_place shred.old < 2 ^ 64 - 1 }
-    ensures follows { (code : CodeParts) (place : Place) (acts : List Act) →
-        let effect = effect_of code (BuiltIn Random2f) place shred.old world.old acts in
-        IfOk result (λ then. Matches then effect place shred.new world.new acts) }
+    ensures follows { (code : CodeParts) (place : Place) (acts : List Act) (store : Store) →
+        StandsFor world.old store →
+        let effect = effect_of code (BuiltIn Random2f) place shred.old store acts in
+        IfOk result (λ then. Follows then effect place shred.new world.new acts) }
     ensures same { OnOk result (IsSame shred.old shred.new) }
     ensures stays { IfOk result (λ then. Stays then shred.old shred.new) }
     ensures ran { OnOk result (world.new.ran ≡ world.old.ran) }
@@ -56,9 +59,10 @@ pub(crate) fn put_random_fix(shred: &mut Shred, world: &mut World) -> Result<The
 pub(crate) fn seed(shred: &mut Shred, world: &mut World) -> Result<Then, Memory>
     requires operand { IsFitting (of_top (operands_of shred.old) int_in) }
     requires place { next_place shred.old < 2 ^ 64 - 1 }
-    ensures follows { (code : CodeParts) (place : Place) (acts : List Act) →
-        let effect = effect_of code (BuiltIn Srandom) place shred.old world.old acts in
-        IfOk result (λ then. Matches then effect place shred.new world.new acts) }
+    ensures follows { (code : CodeParts) (place : Place) (acts : List Act) (store : Store) →
+        StandsFor world.old store →
+        let effect = effect_of code (BuiltIn Srandom) place shred.old store acts in
+        IfOk result (λ then. Follows then effect place shred.new world.new acts) }
     ensures same { OnOk result (IsSame shred.old shred.new) }
     ensures stays { IfOk result (λ then. Stays then shred.old shred.new) }
     ensures ran { OnOk result (world.new.ran ≡ world.old.ran) }

@@ -9,15 +9,16 @@ ghost use Rattle.ck_code.specs.declared.instr.Instr.TheVariants.{Native as Built
 ghost use Rattle.ck_code.specs.Machine.{taken};
 ghost use Rattle.ck_store.specs.Operators.{int_in};
 ghost use Rattle.ck_store.specs.Shreds.{shred_of};
-ghost use Rattle.ck_store.specs.Store.{Gives, Fails, IsFitting};
+ghost use Rattle.ck_store.specs.Store.{Store, Gives, Fails, IsFitting};
 ghost use Rattle.ck_typed.specs.declared.native.Native.TheVariants.{ShredId, Remove};
 ghost use Rattle.ck_typed.specs.WellFormed.{FoundWhere};
 ghost use Rattle.machine_world.specs.declared.acts.Act.{Act as Recorded};
 ghost use Rattle.machine_world.specs.declared.course.Then.TheVariants.{GoesOn};
 ghost use Rattle.machine_world.specs.Shown.{shown, locals_of, operands_of, next_place};
 ghost use Rattle.machine_world.specs.Steps.{effect_of, next_with, of_top, IsGood, Matches, Stays};
-ghost use Rattle.machine_world.specs.Steps.{IsSame};
-ghost use Rattle.machine_world.specs.Worlds.{Parts};
+ghost use Rattle.machine_world.specs.Steps.{Follows, IsSame};
+ghost use Rattle.machine_world.specs.Tries.{HasStore};
+ghost use Rattle.machine_world.specs.Worlds.{StandsFor};
 
 use crate::makings::take_operands;
 use ck_code::CodeParts;
@@ -53,9 +54,9 @@ pub(crate) fn spork(
     requires arguments { FoundWhere (slice_get code.now.funs fun)
         (λ fn. IsFitting (taken fn.params [] (operands_of shred.old))) }
     requires place { next_place shred.old < 2 ^ 64 - 1 }
-    ensures follows { let spork = Spork fun in
-        let effect = effect_of code.now spork place shred.old world.old acts.old in
-        IfOk result (λ then. Matches then effect place shred.new world.new acts.new) }
+    ensures follows { (store : Store) → StandsFor world.old store →
+        let effect = effect_of code.now (Spork fun) place shred.old store acts.old in
+        IfOk result (λ then. Follows then effect place shred.new world.new acts.new) }
     ensures same { OnOk result (IsSame shred.old shred.new) }
     ensures stays { IfOk result (λ then. Stays then shred.old shred.new) }
     ensures ran { OnOk result (world.new.ran ≡ world.old.ran) }
@@ -86,12 +87,13 @@ pub(crate) fn spork_virtual(
     n: usize,
     place: Place,
 ) -> Result<Then, Memory>
-    requires good { IsGood
-        (effect_of code.now (SporkVirtual slot n) place shred.old world.old acts.old) }
+    requires good { let spork = SporkVirtual slot n in HasStore world.old (λ store.
+        IsGood (effect_of code.now spork place shred.old store acts.old)) }
     requires place { next_place shred.old < 2 ^ 64 - 1 }
-    ensures follows { let spork = SporkVirtual slot n in
-        let effect = effect_of code.now spork place shred.old world.old acts.old in
-        IfOk result (λ then. Matches then effect place shred.new world.new acts.new) }
+    ensures follows { (store : Store) → StandsFor world.old store →
+        let spork = SporkVirtual slot n in
+        let effect = effect_of code.now spork place shred.old store acts.old in
+        IfOk result (λ then. Follows then effect place shred.new world.new acts.new) }
     ensures same { OnOk result (IsSame shred.old shred.new) }
     ensures stays { IfOk result (λ then. Stays then shred.old shred.new) }
     ensures ran { OnOk result (world.new.ran ≡ world.old.ran) }
@@ -127,9 +129,9 @@ fn shred_number(v: &Value) -> Result<u64, Trap>
 pub(crate) fn put_id(shred: &mut Shred, place: Place) -> Result<Then, Memory>
     requires operand { IsFitting (of_top (operands_of shred.old) shred_of) }
     requires place { next_place shred.old < 2 ^ 64 - 1 }
-    ensures follows { (code : CodeParts) (world : Parts) (acts : List Recorded) →
-        let effect = effect_of code (BuiltIn ShredId) place shred.old world acts in
-        IfOk result (λ then. Matches then effect place shred.new world acts) }
+    ensures follows { (code : CodeParts) (store : Store) (acts : List Recorded) →
+        let effect = effect_of code (BuiltIn ShredId) place shred.old store acts in
+        IfOk result (λ then. Matches then effect place shred.new store acts) }
     ensures same { OnOk result (IsSame shred.old shred.new) }
     ensures stays { IfOk result (λ then. Stays then shred.old shred.new) }
 {
@@ -144,9 +146,9 @@ pub(crate) fn put_id(shred: &mut Shred, place: Place) -> Result<Then, Memory>
 pub(crate) fn remove(shred: &mut Shred, acts: &mut Acts) -> Result<Then, Memory>
     requires operand { IsFitting (of_top (operands_of shred.old) int_in) }
     requires place { next_place shred.old < 2 ^ 64 - 1 }
-    ensures follows { (code : CodeParts) (place : Place) (world : Parts) →
-        let effect = effect_of code (BuiltIn Remove) place shred.old world acts.old in
-        IfOk result (λ then. Matches then effect place shred.new world acts.new) }
+    ensures follows { (code : CodeParts) (place : Place) (store : Store) →
+        let effect = effect_of code (BuiltIn Remove) place shred.old store acts.old in
+        IfOk result (λ then. Matches then effect place shred.new store acts.new) }
     ensures same { OnOk result (IsSame shred.old shred.new) }
     ensures stays { IfOk result (λ then. Stays then shred.old shred.new) }
 {
