@@ -4,6 +4,7 @@ ghost use Rattle.ck_store.specs.Store.{Store};
 ghost use Rattle.ck_code.specs.Verified.{IsVerified};
 ghost use Rattle.ck_code.specs.Machine.{stopped_at};
 ghost use Rattle.machine_world.specs.Shown.{shown, frames_of};
+ghost use Rattle.machine_world.specs.Tries.{HasStore};
 ghost use Rattle.machine_world.specs.Worlds.{StandsFor, counted};
 ghost use Rattle.machine_world.specs.Steps.{IsSame, state_of};
 ghost use Rattle.stack_machine.specs.Fitting.{FitBy, AreSuited, StaysFit};
@@ -29,12 +30,15 @@ fn run(
     world: &mut World,
     acts: &mut Acts,
 ) -> Result<Stop, Memory>
-    requires over { IsOver (run_of code.now shred.old (state_of shred.old world.old acts.old)) }
-    ensures ends { let slice = run_of code.now shred.old (state_of shred.old world.old acts.old) in
-        IfOk result (λ stop. EndsAs stop slice code.now shred.new
-        (state_of shred.new world.new acts.new)) }
+    requires over { HasStore world.old (λ store.
+        IsOver (run_of code.now shred.old (state_of shred.old store acts.old))) }
+    ensures ends { (store : Store) → StandsFor world.old store →
+        let slice = run_of code.now shred.old (state_of shred.old store acts.old) in
+        IfOk result (λ stop. HasStore world.new (λ after.
+        EndsAs stop slice code.now shred.new (state_of shred.new after acts.new))) }
     ensures same { OnOk result (IsSame shred.old shred.new) }
-    ensures ran { let more = begun_by code.now shred.old (state_of shred.old world.old acts.old) in
+    ensures ran { (store : Store) → StandsFor world.old store →
+        let more = begun_by code.now shred.old (state_of shred.old store acts.old) in
         OnOk result (world.new.ran ≡ counted world.old.ran more) }
 {
     let parts = code.parts();
@@ -46,9 +50,7 @@ fn run(
     'run: loop {
         let at = step_in(steps, here);
         if let Some(n) = int_put(shred, &at.instr) {
-            if go_on_with_int(
-                code, steps, shred, world, acts, &mut here, &mut from, &mut begun, n,
-            )? {
+            if go_on_with_int(code, steps, shred, &mut here, &mut from, &mut begun, n)? {
                 steps = steps_at(parts, frames::fun(shred));
             }
             continue 'run;
