@@ -38,11 +38,11 @@ module _ (old new : Machine) (place : ℕ) (shred after : Standing) (acts : List
   ran_by (Ok stop) leaves tells time number parent last ran =
       at_some (λ shred. Ran stop shred place old new acts) _ shred leaves.at (record {
         after = after;
-        tells = tells (store_of old.world) (record { is = refl });
+        tells = tells;
         number_is = number;
         parent_is = parent;
-        last_is = last ∙ sym time ∙ sym (time_of new.world);
-        ran_is = ran (store_of old.world) (record { is = refl });
+        last_is = last ∙ sym time;
+        ran_is = ran;
         shreds_are = leaves.shreds_are;
         due_is = leaves.due_is;
         waits_are = leaves.waits_are;

@@ -31,6 +31,7 @@ use Rattle.machine_world.specs.Worlds.{Parts, store_of}
 use Rattle.machine_world.specs.declared.acts.Act.{Act as Recorded}
 use Rattle.machine_world.specs.declared.course.Stop.{Stop as MachineStop}
 use Rattle.machine_world.specs.declared.course.Stop.TheVariants as stop
+use Rattle.chuck_vm.proofs.Ran.{time_of}
 use Rattle.chuck_vm.specs.declared.machine.Machine.{Machine}
 use Rattle.chuck_vm.specs.declared.wake.Wake.{Wake as MachineWake}
 use Rattle.chuck_vm.specs.Machine.{stopped_of, shred_of, shreds_of, due_of, wait_of, seen}
@@ -235,6 +236,9 @@ module _ (old m2 : Machine) (n place : ℕ) (standing : Standing) (stop : Machin
   abbrev meant : List Act
   meant = all_acts_meant acts
 
+  last_is : ran.after.last ≡ after.now
+  last_is = ran.last_is ∙ sym (time_of m2.world)
+
   number : s.number ≡ n
   number = (found_times (λ (s : Shred Stopped). s.number) n (shreds_of code old.shreds.items) s found).0
 
@@ -253,17 +257,17 @@ module _ (old m2 : Machine) (n place : ℕ) (standing : Standing) (stop : Machin
       before
 
   abbrev ours : Slice Stopped
-  ours = slice_told code can.verified s.number b s.progress before m2.world ran.after acts ran.last_is
+  ours = slice_told code can.verified s.number b s.progress before m2.world ran.after acts last_is
       (stop_meant stop)
 
-  same : Same code can.verified s.number b s.progress before m2.world ran.after acts ran.last_is (seen old)
+  same : Same code can.verified s.number b s.progress before m2.world ran.after acts last_is (seen old)
       (stop_meant stop) theirs
   same =
-      same_slice code can.verified s.number b s.progress before m2.world ran.after acts ran.last_is
+      same_slice code can.verified s.number b s.progress before m2.world ran.after acts last_is
       (seen old) stop
       (slice_on code standing.number (enough code) (stopped_at code (frames_of (shown standing))) standing.last
       standing.turns (frames_of (shown standing)) before)
-      (subst (λ h. Tells stop h code ran.after m2.world acts) (same_halt code standing before) ran.tells)
+      (subst (λ h. Tells stop h code ran.after m2.world acts) (same_halt code standing before) (ran.tells before (record { is = refl })))
 
   kept : IsKept cod turns_at (IsRunStore code) Fits s.progress before ours
   kept = same.kept kept_theirs
@@ -389,7 +393,7 @@ module _ (old m2 : Machine) (n place : ℕ) (standing : Standing) (stop : Machin
       let no_more : rest.begun ≡ 0 = where_begun (silent acted) (live (silent acted) n) (stop_meant stop) in
       let all : whole.begun ≡ begun_of old.code standing before =
       omega (arith, begun, none, no_more) ∙ sym (same_begun old.code standing before) in
-      is ∙ ran.ran_is ∙ ap (counted old.world.ran) (sym all)
+      is ∙ ran.ran_is before (record { is = refl }) ∙ ap (counted old.world.ran) (sym all)
 
   bytes_are : (names : List (List ℕ)) → text_bytes names whole.text ≡ text_bytes names acted.text
       ++ (trap_lines names wake wake.trap ++ text_bytes names rest.text)

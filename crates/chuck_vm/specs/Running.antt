@@ -4,14 +4,14 @@ use Rattle.ck_code.specs.declared.code.CodeParts.{CodeParts}
 use Rattle.ck_code.specs.Verified.{IsVerified}
 use Rattle.ck_meaning.specs.Replay.{Stopped}
 use Rattle.ck_run.specs.Run.{Run}
+use Rattle.ck_store.specs.Store.{Store}
 use Rattle.ck_run.specs.Sound.{IsSound}
 use Rattle.run_laws.specs.FitRuns.{IsRunStore, IsFitShred}
 use Rattle.shred_state.specs.Frames.{Standing}
 use Rattle.machine_world.specs.declared.acts.Act.{Act}
 use Rattle.machine_world.specs.declared.course.Stop.{Stop}
-use Rattle.machine_world.specs.Worlds.{counted}
+use Rattle.machine_world.specs.Worlds.{StandsFor, counted}
 use Rattle.stack_machine.specs.Slices.{Tells, slice_of, begun_of}
-use Rattle.machine_world.specs.Worlds.{store_of}
 use Rattle.chuck_vm.specs.declared.machine.Machine.{Machine}
 
 -- the run of a verified code is sound
@@ -24,12 +24,13 @@ pub record CanRun (code : CodeParts) (run : Run Stopped) : Type 0 where
 pub record Ran (stop : Stop) (shred : Standing) (place : ℕ) (old new : Machine)
     (acts : List Act) : Type 0 where
   pub after : Standing
-  pub tells : Tells stop (slice_of old.code shred (store_of old.world)) old.code after new.world
-      acts
+  pub tells : (store : Store) → StandsFor old.world store →
+      Tells stop (slice_of old.code shred store) old.code after new.world acts
   pub number_is : after.number ≡ shred.number
   pub parent_is : after.parent ≡ shred.parent
-  pub last_is : after.last ≡ (store_of new.world).now
-  pub ran_is : new.world.ran ≡ counted old.world.ran (begun_of old.code shred (store_of old.world))
+  pub last_is : after.last ≡ new.world.time
+  pub ran_is : (store : Store) → StandsFor old.world store →
+      new.world.ran ≡ counted old.world.ran (begun_of old.code shred store)
   pub shreds_are : new.shreds.items ≡ slice_set old.shreds.items place after
   pub due_is : new.due ≡ old.due
   pub waits_are : new.waits ≡ old.waits

@@ -5,6 +5,7 @@ use Rattle.shreduler.specs.Queue as queue
 use Rattle.machine_world.specs.Units.{detached}
 use Rattle.machine_world.specs.Worlds.{store_of}
 use Rattle.event_queue.specs.Waiters as waiters
+use Rattle.machine_world.proofs.Stands.{of_each}
 use Rattle.chuck_vm.specs.Machine.{seen, due_of, wait_of}
 use Rattle.chuck_vm.proofs.Ends.{none_ended, end_step, stay_step, left_in_order, ended_all}
 use Rattle.chuck_vm.proofs.Positions.{rising}
@@ -56,7 +57,7 @@ loop-kept-preserved-then-ends_at c =
           (ap (map wait_of) (c.drop_shred.ensures.without
           ∙ ap (λ n. waiters.without n c.loop-kept.self.waits) c.id-ended.ensures)
           ∙ waits_without c.remove.result.number c.loop-kept.self.waits)
-          (c.detach.ensures.store
+          ((of_each _ _ c.detach.ensures.store).is
           ∙ ap (λ n. detached n (store_of c.loop-kept.self.world)) c.id-ended.ensures);
     }
 

@@ -7,6 +7,7 @@ use Rattle.ck_code.specs.declared.code.CodeParts.{CodeParts}
 use Rattle.ck_meaning.specs.Replay.{by_code, run_code}
 use Rattle.ck_run.specs.Run.{settled, most_slices, block_between}
 use Rattle.ck_run.specs.Told.{silent}
+use Rattle.machine_world.proofs.Stands.{of_each}
 use Rattle.chuck_vm.specs.Machine.{seen}
 use Rattle.chuck_vm.specs.Running.{CanRun}
 use Rattle.chuck_vm.specs.Telling.{Becomes, TellsFront, AddsFronts}
@@ -160,7 +161,7 @@ loop-i-preserved c =
     c.args.wakes.now.items c.loop-i.wakes.items c.settle_from.new.wakes.items c.loop-i.invariant.stands
     c.loop-i.invariant.made c.push.new.self.items c.sample.result
     (c.in_ok-push.ensures.items ∙ ap (λ v. c.loop-i.samples.items ++ v ∷ []) (to_z-of_z w16 c.sample.result value_fits))
-    c.sample.ensures.value becomes in
+    (of_each _ _ c.sample.ensures.value) becomes in
     let C : CodeParts
     → Type 0 =
     λ code. Counts (settled (by_code code) (most_slices (run_code c.args.self.now.code n))
@@ -181,7 +182,7 @@ loop-i-preserved c =
           (subst (λ time. now <ℤ time) (to_z-of_z w64 c.in_ok-next.next fits) lt);
       stands = subst (λ m. seen (record c.settle_from.new.self { world = c.sample.new.self })
           ≡ silent (run_code code m)) e
-          (ap (λ store. record (seen c.settle_from.new.self) { store = store }) c.sample.ensures.store ∙ next.1);
+          (ap (λ store. record (seen c.settle_from.new.self) { store = store }) (of_each _ _ c.sample.ensures.store).is ∙ next.1);
       counts = c.sample.ensures.ran ∙ count ∙ ap (λ m. as_counted (run_code code m).begun) e;
       made = subst
           (λ m. Making code names c.args.made m c.args.samples.now.items c.push.new.self.items

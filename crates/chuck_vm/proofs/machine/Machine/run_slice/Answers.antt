@@ -15,6 +15,7 @@ use Rattle.shred_state.specs.Frames.{Standing}
 use Rattle.machine_world.specs.Acts.{all_acts_meant}
 use Rattle.stack_machine.specs.Fitting.{AreSuited}
 use Rattle.machine_world.specs.Worlds.{store_of}
+use Rattle.machine_world.proofs.Stands.{of_each}
 use Rattle.chuck_vm.specs.Machine.{seen, numbers}
 use Rattle.chuck_vm.specs.Running.{Ran}
 use Rattle.chuck_vm.specs.Wakes.{names_of, wake_meant, stop_meant}
@@ -147,7 +148,7 @@ returns-in_err-note-clause-front c =
     let w : Wake =
     wake_meant (record { at = to_z w64 (of_z w64 c.now.result); shred = n; trap = c.trap_of.result }) in
     let is = wake_is old m2 n place p.one stop acts can c.requires.idle p.at p.found ran c.apply_all.new.self w
-    (to_z-of_z w64 c.now.result fits ∙ c.now.ensures.store) refl c.trap_of.ensures quiet in
+    (to_z-of_z w64 c.now.result fits ∙ of_each _ _ c.now.ensures.store) refl c.trap_of.ensures quiet in
     let more = c.in_ok-apply_all.ensures.text (names_of c.args.names.now)
     ∙ ap (λ code. c.args.text.now.items
     ++ text_bytes (names_of c.args.names.now)
@@ -244,7 +245,7 @@ returns-clause-becomes c =
     let w : Wake =
     wake_meant (record { at = to_z w64 (of_z w64 c.now.result); shred = n; trap = c.trap_of.result }) in
     let is = wake_is old m2 n place p.one stop acts can c.requires.idle p.at p.found ran c.apply_all.new.self w
-    (to_z-of_z w64 c.now.result fits ∙ c.now.ensures.store) refl c.trap_of.ensures quiet in
+    (to_z-of_z w64 c.now.result fits ∙ of_each _ _ c.now.ensures.store) refl c.trap_of.ensures quiet in
     let more = c.in_ok-apply_all.ensures.text (names_of c.args.names.now)
     ∙ ap (λ code. c.args.text.now.items
     ++ text_bytes (names_of c.args.names.now)
@@ -279,7 +280,7 @@ returns-clause-front c =
     let w : Wake =
     wake_meant (record { at = to_z w64 (of_z w64 c.now.result); shred = n; trap = c.trap_of.result }) in
     let is = wake_is old m2 n place p.one stop acts can c.requires.idle p.at p.found ran c.apply_all.new.self w
-    (to_z-of_z w64 c.now.result fits ∙ c.now.ensures.store) refl c.trap_of.ensures quiet in
+    (to_z-of_z w64 c.now.result fits ∙ of_each _ _ c.now.ensures.store) refl c.trap_of.ensures quiet in
     let more = c.in_ok-apply_all.ensures.text (names_of c.args.names.now)
     ∙ ap (λ code. c.args.text.now.items
     ++ text_bytes (names_of c.args.names.now)

@@ -8,6 +8,7 @@ use Rattle.ck_run.specs.Run.{Run, Due, first_due, run_slice, live, settled}
 use Rattle.ck_run.specs.Sound.{measure}
 use Rattle.run_laws.specs.FitRuns.{turns_at}
 use Rattle.shreduler.specs.Queue as queue
+use Rattle.machine_world.proofs.Stands.{of_each}
 use Rattle.chuck_vm.specs.Machine.{seen, due_of}
 use Rattle.chuck_vm.specs.Running.{CanRun}
 use Rattle.chuck_vm.specs.Telling.{Becomes, TellsFront}
@@ -48,7 +49,7 @@ run_slice-requires-clause-can_run c =
     let fits : SFits w64 c.now.result = search rules in
     let is : Some n ≡ option_map (λ (d : Due). d.shred) (first_due now.store.now now.due) =
     c.in-Some.ensures.first ∙ ap (λ t. option_map (λ (d : queue.Due). d.shred) (queue.first_due t m.due))
-    (to_z-of_z w64 c.now.result fits ∙ c.now.ensures.store) ∙ first_number now.store.now m.due in
+    (to_z-of_z w64 c.now.result fits ∙ of_each _ _ c.now.ensures.store) ∙ first_number now.store.now m.due in
     let left : map due_of c.take_due.new.self ≡ dues_but n now.due = ap (map due_of) c.in-Some.ensures.taken
     ∙ dues_without n m.due in
     let taken = taken_fits code names v n now (map due_of c.take_due.new.self) left so_far.sound is in
@@ -71,7 +72,7 @@ run_slice-requires-clause-idle c =
     let fits : SFits w64 c.now.result = search rules in
     let is : Some n ≡ option_map (λ (d : Due). d.shred) (first_due now.store.now now.due) =
     c.in-Some.ensures.first ∙ ap (λ t. option_map (λ (d : queue.Due). d.shred) (queue.first_due t m.due))
-    (to_z-of_z w64 c.now.result fits ∙ c.now.ensures.store) ∙ first_number now.store.now m.due in
+    (to_z-of_z w64 c.now.result fits ∙ of_each _ _ c.now.ensures.store) ∙ first_number now.store.now m.due in
     let left : map due_of c.take_due.new.self ≡ dues_but n now.due = ap (map due_of) c.in-Some.ensures.taken
     ∙ dues_without n m.due in
     (taken_fits code names v n now (map due_of c.take_due.new.self) left so_far.sound is).idle
@@ -92,7 +93,7 @@ due-smaller c =
     let fits : SFits w64 c.now.result = search rules in
     let is : Some n ≡ option_map (λ (d : Due). d.shred) (first_due now.store.now now.due) =
     c.in-Some.ensures.first ∙ ap (λ t. option_map (λ (d : queue.Due). d.shred) (queue.first_due t m.due))
-    (to_z-of_z w64 c.now.result fits ∙ c.now.ensures.store) ∙ first_number now.store.now m.due in
+    (to_z-of_z w64 c.now.result fits ∙ of_each _ _ c.now.ensures.store) ∙ first_number now.store.now m.due in
     let left : map due_of c.take_due.new.self ≡ dues_but n now.due = ap (map due_of) c.in-Some.ensures.taken
     ∙ dues_without n m.due in
     let N : (dues : List Due) → CodeParts
@@ -122,7 +123,7 @@ due-preserved c =
     let fits : SFits w64 c.now.result = search rules in
     let is : Some n ≡ option_map (λ (d : Due). d.shred) (first_due now.store.now now.due) =
     c.in-Some.ensures.first ∙ ap (λ t. option_map (λ (d : queue.Due). d.shred) (queue.first_due t m.due))
-    (to_z-of_z w64 c.now.result fits ∙ c.now.ensures.store) ∙ first_number now.store.now m.due in
+    (to_z-of_z w64 c.now.result fits ∙ of_each _ _ c.now.ensures.store) ∙ first_number now.store.now m.due in
     let left : map due_of c.take_due.new.self ≡ dues_but n now.due = ap (map due_of) c.in-Some.ensures.taken
     ∙ dues_without n m.due in
     let N : (dues : List Due) → CodeParts
@@ -166,7 +167,7 @@ returns-in_err-run_slice-clause-front c =
     let fits : SFits w64 c.now.result = search rules in
     let is : Some n ≡ option_map (λ (d : Due). d.shred) (first_due now.store.now now.due) =
     c.in-Some.ensures.first ∙ ap (λ t. option_map (λ (d : queue.Due). d.shred) (queue.first_due t m.due))
-    (to_z-of_z w64 c.now.result fits ∙ c.now.ensures.store) ∙ first_number now.store.now m.due in
+    (to_z-of_z w64 c.now.result fits ∙ of_each _ _ c.now.ensures.store) ∙ first_number now.store.now m.due in
     let left : map due_of c.take_due.new.self ≡ dues_but n now.due = ap (map due_of) c.in-Some.ensures.taken
     ∙ dues_without n m.due in
     let N : (dues : List Due) → CodeParts
@@ -191,7 +192,7 @@ returns-clause-becomes c = λ bound le.
     let none : c.take_due.result ≡ None = none_by c.take_due.result c.in_default.not-Some in
     let is : None ≡ option_map (λ (d : Due). d.shred) (first_due now.store.now now.due) = sym none
     ∙ c.take_due.ensures.first ∙ ap (λ t. option_map (λ (d : queue.Due). d.shred) (queue.first_due t m.due))
-    (to_z-of_z w64 c.now.result fits ∙ c.now.ensures.store) ∙ first_number now.store.now m.due in
+    (to_z-of_z w64 c.now.result fits ∙ of_each _ _ c.now.ensures.store) ∙ first_number now.store.now m.due in
     let B : List queue.Due
     → Type 0 = λ dues. Becomes names (settled (by_code code) bound (seen c.args.self.now))
     (record m { due = dues }) c.args.text.now.items c.due.text.items c.args.wakes.now.items
@@ -212,7 +213,7 @@ returns-clause-counts c = λ bound le.
     let none : c.take_due.result ≡ None = none_by c.take_due.result c.in_default.not-Some in
     let is : None ≡ option_map (λ (d : Due). d.shred) (first_due now.store.now now.due) = sym none
     ∙ c.take_due.ensures.first ∙ ap (λ t. option_map (λ (d : queue.Due). d.shred) (queue.first_due t m.due))
-    (to_z-of_z w64 c.now.result fits ∙ c.now.ensures.store) ∙ first_number now.store.now m.due in
+    (to_z-of_z w64 c.now.result fits ∙ of_each _ _ c.now.ensures.store) ∙ first_number now.store.now m.due in
     all_counted code names v (seen c.args.self.now) m c.args.self.now.world.ran m.world.ran
     c.args.text.now.items c.due.text.items c.args.wakes.now.items c.due.wakes.items is
     c.due.invariant.so_far.1 bound le

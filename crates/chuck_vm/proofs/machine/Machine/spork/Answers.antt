@@ -4,6 +4,7 @@ use Rattle.std.proofs.lemmas.Int.{to_z-of_z}
 use Rattle.std.proofs.Common.{◌∷◌, [], ◌++◌, ap, sym, ◌∙◌, map, rules}
 use Rattle.ck_values.specs.Datum.{all_meant}
 use Rattle.ck_meaning.specs.Replay.{beginning}
+use Rattle.machine_world.proofs.Stands.{of_each}
 use Rattle.chuck_vm.specs.Machine.{seen, shred_of, shreds_of, due_of}
 use Rattle.chuck_vm.proofs.Lists.{map-push}
 use Rattle.chuck_vm.proofs.Beginning.{can_make, begun_shred}
@@ -34,5 +35,5 @@ returns-clause-child c =
     (begun_shred m.code child c.args.number c.args.parent c.args.fun args c.requires.begins
     c.in_ok-child.ensures.new c.in_ok-child.ensures.shown))
     (due_pushed m.due c.shredule.new.self _ _ c.args.number c.in_ok-shredule.ensures.due
-    (to_z-of_z w64 c.now.result fits ∙ c.now.ensures.store))
+    (to_z-of_z w64 c.now.result fits ∙ of_each _ _ c.now.ensures.store))
     (sym c.is_live.ensures ∙ c.if-not-is_live.false)

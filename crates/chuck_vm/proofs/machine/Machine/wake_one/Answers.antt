@@ -3,6 +3,7 @@ use mir.Val.{SFits}
 use Rattle.std.proofs.lemmas.Int.{to_z-of_z}
 use Rattle.std.proofs.Common.{◌≡◌, Some, None, option_map, ap, sym, refl, ◌∙◌, map, rules, is_some}
 use Rattle.ck_run.specs.Run.{Wait, woken}
+use Rattle.machine_world.proofs.Stands.{of_each}
 use Rattle.chuck_vm.specs.Machine.{seen, wait_of, due_of}
 use Rattle.chuck_vm.specs.Telling.{longest}
 use Rattle.chuck_vm.proofs.Orders.{waiter_not_due, woken_is, no_waiter, none_by, if_none}
@@ -51,7 +52,7 @@ returns-clause-whether c =
     (longest event (seen m)) refl is
     (ap (map wait_of) c.in-Some.ensures.taken ∙ waits_without c.in-Some.shred m.waits)
     (due_pushed m.due c.shredule.new.self _ _ c.in-Some.shred c.in_ok-shredule.ensures.due
-    (to_z-of_z w64 c.now.result fits ∙ c.now.ensures.store))).1
+    (to_z-of_z w64 c.now.result fits ∙ of_each _ _ c.now.ensures.store))).1
 
 pub returns-clause-woken : goal.returns-clause-woken
 returns-clause-woken c =
@@ -64,4 +65,4 @@ returns-clause-woken c =
     (longest event (seen m)) refl is
     (ap (map wait_of) c.in-Some.ensures.taken ∙ waits_without c.in-Some.shred m.waits)
     (due_pushed m.due c.shredule.new.self _ _ c.in-Some.shred c.in_ok-shredule.ensures.due
-    (to_z-of_z w64 c.now.result fits ∙ c.now.ensures.store))).0
+    (to_z-of_z w64 c.now.result fits ∙ of_each _ _ c.now.ensures.store))).0
