@@ -1,7 +1,7 @@
 //! What instructions work on: the world of all shreds, the frames of the one that runs, the acts
 //! that a slice records, and what comes after an instruction.
 //!
-//! Its one contract: each call does to the frames, or to the store that the world stands for,
+//! Its one contract: each call does to the frames, or to every store that the world stands for,
 //! exactly what the step of its definition says, or ends by exactly its trap, or there was not
 //! enough memory. It carries out no instruction: the crates of instructions and the machine
 //! stand on it, and whoever runs shreds keeps a [`World`] through it. Contracts see shreds, objects
