@@ -13,14 +13,13 @@ use Rattle.ck_store.specs.Steps.{pick}
 use Rattle.ck_meaning.specs.Replay.{Stopped}
 use Rattle.ck_run.specs.Run.{Shred, Due, Wait, Run, has, end_with, ended, is_made_by, touches}
 use Rattle.ck_run.specs.Family.{AreInOrder, AreParented, IsFamily}
-use Rattle.ck_run.specs.Sound.{IsOrderly}
 use Rattle.ck_run.proofs.Family.{Parts, no_parts, goes, stays, staying, gone_after, others_stay, has-push, parent-low, order-weaker}
 use Rattle.shred_state.specs.Frames.{Standing}
 use Rattle.machine_world.specs.Units.{detached}
 use Rattle.machine_world.specs.Units as made
-use Rattle.machine_world.specs.Worlds.{store_of}
+use Rattle.machine_world.specs.Worlds.{StandsFor}
 use Rattle.chuck_vm.specs.declared.machine.Machine.{Machine}
-use Rattle.chuck_vm.specs.Machine.{shred_of, shreds_of, due_of, wait_of, seen, numbers, ends_behind}
+use Rattle.chuck_vm.specs.Machine.{shred_of, shreds_of, due_of, wait_of, numbers, ends_behind, AreDueAlike, Stands}
 use Rattle.chuck_vm.proofs.Lists.{map-push, got, split_at, take_one, take_removed, drop_removed, take_all, drop_all}
 
 -- the numbers of shreds of a run
@@ -394,22 +393,47 @@ module _ (code : CodeParts) (n below : ℕ) (start : Run Stopped) (items : List 
           (subst K (sym (ap (shreds_of code) (take_one items at s lt is)
           ∙ map-push (shred_of code) (take at items) s)) next)
 
+-- the machine is on its way from a run that it stood for: of the shreds before a place those have
+-- stayed that don't end
+pub record EndsBefore (code : CodeParts) (n below at : ℕ) (start : Run Stopped) (now : Machine) : Type 0 where
+  pub dues : List Due
+  pub store : Store
+  pub ending : Ending n below start (shreds_of code (take at now.shreds.items))
+      (shreds_of code (drop at now.shreds.items)) dues (map wait_of now.waits) store
+  pub due : AreDueAlike (map due_of now.due) dues
+  pub world : StandsFor now.world store
+
+pub none_yet : (n below : ℕ) (start : Run Stopped) (machine : Machine) → Stands machine start
+    → IsFamily below start.shreds → EndsBefore machine.code n below 0 start machine
+none_yet n below start machine stands family =
+    let E : List (Shred Stopped) → List Wait → Type 0 =
+    λ rest waiting. Ending n below start [] rest start.due waiting start.store in
+    record {
+      dues = start.due;
+      store = start.store;
+      ending = subst (λ ws. E (shreds_of machine.code machine.shreds.items) ws) (sym stands.waits)
+          (subst (λ ss. E ss start.waits) (sym stands.shreds) (none_ended n below start family));
+      due = stands.due;
+      world = stands.store;
+    }
+
 -- the whole loop
-pub ended_all : (n at next : ℕ) (old new : Machine) → IsOrderly next (seen old) → new.code ≡ old.code
-    → length new.shreds.items ≤ at
-    → Ending n next (seen old) (shreds_of old.code (take at new.shreds.items))
-    (shreds_of old.code (drop at new.shreds.items)) (map due_of new.due) (map wait_of new.waits)
-    (store_of new.world)
-    → seen new ≡ ended (seen old) n
-ended_all n at next old new orderly same_code past ending =
+pub ended_all : (n below at : ℕ) (start : Run Stopped) (old new : Machine) → IsFamily below start.shreds
+    → new.code ≡ old.code → length new.shreds.items ≤ at → EndsBefore old.code n below at start new
+    → Stands new (ended start n)
+ended_all n below at start old new family same_code past so_far =
     let items = new.shreds.items in
-    let dues = map due_of new.due in
     let waiting = map wait_of new.waits in
-    let store = store_of new.world in
-    let R : List Standing → Type 0 = λ rest. Ending n next (seen old) (shreds_of old.code (take at items))
-    (shreds_of old.code rest) dues waiting store in
-    let K : List Standing → Type 0 = λ kept. Ending n next (seen old) (shreds_of old.code kept) [] dues
-    waiting store in
-    let over = subst K (take_all items at past) (subst R (drop_all items at past) ending) in
-    ap (λ code. record (seen new) { shreds = shreds_of code items }) same_code
-    ∙ all_ended n next (seen old) (shreds_of old.code items) dues waiting store orderly.family over
+    let R : List Standing → Type 0 = λ rest. Ending n below start (shreds_of old.code (take at items))
+    (shreds_of old.code rest) so_far.dues waiting so_far.store in
+    let K : List Standing → Type 0 = λ kept. Ending n below start (shreds_of old.code kept) [] so_far.dues
+    waiting so_far.store in
+    let over = subst K (take_all items at past) (subst R (drop_all items at past) so_far.ending) in
+    subst (Stands new)
+    (all_ended n below start (shreds_of old.code items) so_far.dues waiting so_far.store family over)
+    (record {
+      store = so_far.world;
+      shreds = ap (λ code. shreds_of code items) same_code;
+      due = so_far.due;
+      waits = refl;
+    })

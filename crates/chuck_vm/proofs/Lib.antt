@@ -1,7 +1,9 @@
 pub mod Lists
 pub mod Queues
+pub mod Dues
 pub mod Positions
 pub mod Ends
+pub mod Stands
 pub mod Orders
 pub mod Beginning
 pub mod Counting

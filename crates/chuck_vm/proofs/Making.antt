@@ -1,5 +1,5 @@
 -- Samples are made, one after another.
-use Rattle.std.proofs.Common.{◌≡◌, ℕ, suc, ◌+◌, ◌<◌, ◌≤◌, ℤ, pos, ◌<ℤ◌, List, [], ◌∷◌, ◌++◌, length, refl, sym, ap, ◌∙◌, subst, arith, append_assoc, append-nil}
+use Rattle.std.proofs.Common.{◌≡◌, ℕ, suc, ◌+◌, ◌<◌, ◌≤◌, ℤ, pos, ◌<ℤ◌, List, [], ◌∷◌, ◌++◌, map, length, refl, sym, ap, ◌∙◌, subst, arith, append_assoc, append-nil}
 use Rattle.std.proofs.lemmas.Int.{ints}
 use Rattle.std.proofs.lemmas.List.{map-append}
 use Rattle.ck_base.specs.declared.limits.TheConstants.{MAX_FILES, MAX_SAMPLES}
@@ -11,23 +11,25 @@ use Rattle.ck_meaning.specs.Replay.{Stopped, by_code, run_code}
 use Rattle.ck_run.specs.Run.{Runner, Piece, Wake, Block, Run, settled, most_slices, output_of, after_sample, sampled, since, block_between}
 use Rattle.ck_run.specs.Report.{text_bytes, sheet_sample, sheet_samples}
 use Rattle.ck_run.specs.Sound.{measure}
-use Rattle.ck_run.specs.Told.{silent, AddsFront}
+use Rattle.ck_run.specs.Told.{silent, told, AddsFront}
 use Rattle.ck_run.proofs.Silences.{settled_samples}
 use Rattle.ck_run.proofs.Growing.{Grows, grows_more, grows_same, quiet, next_run, next_grows, run_grows, since-front}
 use Rattle.ck_run.proofs.Settling.{settles, enough_slices}
 use Rattle.run_laws.specs.FitRuns.{turns_at, IsRunStore, IsFitShred}
 use Rattle.run_laws.proofs.Lawful.{lawful, stands}
-use Rattle.machine_world.specs.Worlds.{store_of}
+use Rattle.machine_world.specs.Worlds.{StandsFor}
 use Rattle.chuck_vm.specs.declared.machine.Machine.{Machine}
 use Rattle.chuck_vm.specs.declared.wake.Wake.{Wake as MachineWake}
-use Rattle.chuck_vm.specs.Machine.{seen}
-use Rattle.chuck_vm.specs.Running.{CanRun}
+use Rattle.chuck_vm.specs.Machine.{shreds_of, due_of, wait_of, Stands}
+use Rattle.chuck_vm.specs.Running.{CanRun, OfSettled}
 use Rattle.chuck_vm.specs.Telling.{Becomes, TellsFront, Adds, AddsFronts}
 use Rattle.chuck_vm.specs.Tallies.{as_counted, Counts}
 use Rattle.chuck_vm.specs.Wakes.{wakes_meant}
 use Rattle.chuck_vm.proofs.Applying.{text-append}
 use Rattle.chuck_vm.proofs.Counting.{counted_on}
+use Rattle.chuck_vm.proofs.Dues.{same_due, joined_due}
 use Rattle.chuck_vm.proofs.Reports.{all_added, none_added}
+use Rattle.chuck_vm.proofs.Stands.{now_is, told_alike, quiet_sound}
 
 -- some were added, and some front of the next ones
 front_of : {A : Type 0} (items mine theirs later old mid new : List A) → items ≡ (mine ++ theirs) ++ later
@@ -71,11 +73,11 @@ module _ (code : CodeParts) (names : List (List ℕ)) where
   bound n = most_slices (at n)
 
   -- what `dac` gives at the sample that a store makes
-  abbrev gives : Store → Output
+  abbrev pub gives : Store → Output
   gives store = output_of (after_sample cod store)
 
   -- what comes after so many samples, told from then on
-  abbrev next : ℕ → Run Stopped
+  abbrev pub next : ℕ → Run Stopped
   next n = quiet cod code.mains code.statics n
 
   -- some samples were made
@@ -103,94 +105,99 @@ module _ (code : CodeParts) (names : List (List ℕ)) where
     wakes_are = sym (append-nil (wakes_meant wakes));
   }
 
-  -- the machine at a sample is sound, and the bound is enough
-  pub record Ready (n : ℕ) (run : Run Stopped) : Type 0 where
-    pub can : CanRun code run
-    pub enough : measure turns_at run ≤ bound n
-    pub now : run.store.now ≡ pos n
+  -- the run at a sample is sound, and the bound is enough
+  pub record Ready (n : ℕ) : Type 0 where
+    pub can : CanRun code (at n)
+    pub enough : measure turns_at (at n) ≤ bound n
+    pub now : (at n).store.now ≡ pos n
 
-  pub ready_at : (verified : IsVerified code) (n : ℕ) (machine : Machine) → length code.mains ≤ MAX_FILES
-      → n ≤ MAX_SAMPLES → seen machine ≡ silent (at n) → Ready n (seen machine)
-  ready_at verified n machine files le is =
+  pub ready_at : (verified : IsVerified code) (n : ℕ) → length code.mains ≤ MAX_FILES → n ≤ MAX_SAMPLES
+      → Ready n
+  ready_at verified n files le =
       let at_n = stands code verified files n le in
-      subst (Ready n) (sym is) (record {
-        can = record {
-          verified = verified;
-          sound =
-              record {
-                store = at_n.sound.store;
-                family = at_n.sound.family;
-                once = at_n.sound.once;
-                fits =
-                    at_n.sound.fits;
-              };
-        };
+      record {
+        can = record { verified = verified; sound = at_n.sound };
         enough = enough_slices cod turns_at (IsRunStore code) (IsFitShred code verified.typing)
             (lawful code verified) (at n) at_n.sound at_n.sporks;
         now = at_n.now;
-      })
+      }
 
-  module _ (from n : ℕ) (old m2 : Machine) (samples samples2 : List ℤ) (text text2 text3 : List ℕ)
-      (wakes wakes2 wakes3 : List MachineWake) (stands : seen old ≡ silent (at n))
+  pub can_at : (n : ℕ) (machine : Machine) → machine.code ≡ code → Ready n → CanRun machine.code (at n)
+  can_at n machine same ready = subst (λ code2. CanRun code2 (at n)) (sym same) ready.can
+
+  -- where a machine stands for the run at a sample, what comes next is what each settled run of it is
+  pub settled_at : (n : ℕ) (machine : Machine) (such : Run Stopped → Type 0) → machine.code ≡ code → Ready n
+      → Stands machine (at n) → OfSettled machine such → such (next n)
+  settled_at n machine such same ready stands all =
+      subst (λ code2. such (settled (by_code code2) (bound n) (silent (at n)))) same
+      (all (at n) stands (can_at n machine same ready) (bound n) ready.enough)
+
+  -- a machine that has made a sample more stands for the run that has
+  pub sampled_stands : (n : ℕ) (old new : Machine) → new.code ≡ old.code → new.shreds.items ≡ old.shreds.items
+      → new.due ≡ old.due → new.waits ≡ old.waits
+      → ((store : Store) → StandsFor old.world store → StandsFor new.world (after_sample cod store))
+      → Stands old (next n) → Stands new (at (suc n))
+  sampled_stands n old new same shreds due waits world stands =
+      let q = next n in
+      let run = at n in
+      let here : Stands new (sampled cod q) = record {
+        store = world q.store stands.store;
+        shreds = ap (shreds_of new.code) shreds ∙ ap (λ code. shreds_of code old.shreds.items) same ∙ stands.shreds;
+        due = joined_due (map due_of new.due) (map due_of old.due) q.due
+            (same_due (map due_of new.due) (map due_of old.due) (ap (map due_of) due)) stands.due;
+        waits = ap (map wait_of) waits ∙ stands.waits;
+      } in
+      subst (Stands new) (sym (next_run cod code.mains code.statics n))
+      (told_alike new (sampled cod q) (told run.samples run.text run.wakes run.begun (sampled cod q)) refl here)
+
+  -- its instructions are counted
+  pub count_made : (n count count2 : ℕ) → count ≡ as_counted (at n).begun → Counts (next n).begun count count2
+      → count2 ≡ as_counted (at (suc n)).begun
+  count_made n count count2 is more =
+      let q = next n in
+      let grows : (at (suc n)).begun ≡ (at n).begun + q.begun =
+      (next_grows cod code.mains code.statics n).begun_grows in
+      counted_on (at n).begun q.begun count count2 is more ∙ ap as_counted (sym grows)
+
+  module _ (from n : ℕ) (m2 : Machine) (samples samples2 : List ℤ) (text text2 text3 : List ℕ)
+      (wakes wakes2 wakes3 : List MachineWake)
       (so_far : Making from n samples samples2 text text2 wakes wakes2) where
     -- one more
     pub one_made : (samples3 : List ℤ) (value : ℤ) → samples3 ≡ samples2 ++ value ∷ []
-        → value ≡ sheet_sample (gives (store_of m2.world))
-        → Becomes names (settled cod (bound n) (seen old)) m2 text2 text3 wakes2 wakes3
+        → ((store : Store) → StandsFor m2.world store → value ≡ sheet_sample (gives store))
+        → Becomes names (next n) m2 text2 text3 wakes2 wakes3
         → Making from (suc n) samples samples3 text text3 wakes wakes3
-        × (record (seen m2) { store = after_sample cod (store_of m2.world) }
-        ≡ silent (at (suc n)))
-    one_made samples3 value pushed value_is becomes =
-        let b : Becomes names (next n) m2 text2 text3 wakes2 wakes3 =
-        subst (λ r. Becomes names (settled cod (bound n) r) m2 text2 text3 wakes2 wakes3) stands becomes in
+    one_made samples3 value pushed value_is b =
         let q = next n in
-        let same : value ≡ sheet_sample (gives q.store) =
-        value_is ∙ ap (λ (r : Run Stopped). sheet_sample (gives r.store)) b.machine_is in
+        let same : value ≡ sheet_sample (gives q.store) = value_is q.store b.stands.store in
         let one : sheet_samples (sampled cod q).samples ≡ value ∷ [] =
         ap (λ l. sheet_samples (l ++ gives q.store ∷ []))
         (settled_samples cod (bound n) (silent (at n)))
-        ∙ ap (λ v. v ∷ []) (sym same) in (
-          record {
-            xs = so_far.xs ++ (sampled cod q).samples;
-            ts = so_far.ts ++ q.text;
-            ws = so_far.ws ++ q.wakes;
-            begun = so_far.begun + q.begun;
-            grows = grows_more (at from) (at n) (at (suc n)) so_far.xs (sampled cod q).samples so_far.ts q.text
-                so_far.ws q.wakes so_far.begun q.begun so_far.grows (next_grows cod code.mains code.statics n);
-            samples_are = pushed ∙ ap (λ l. l ++ value ∷ []) so_far.samples_are
-                ∙ append_assoc samples (sheet_samples so_far.xs) (value ∷ [])
-                ∙ ap (λ l. samples ++ (sheet_samples so_far.xs ++ l)) (sym one)
-                ∙ ap (λ l. samples ++ l)
-                (sym (map-append sheet_sample so_far.xs (sampled cod q).samples));
-            text_is = b.text_is ∙ ap (λ l. l ++ text_bytes names q.text) so_far.text_is
-                ∙ append_assoc text (text_bytes names so_far.ts) (text_bytes names q.text)
-                ∙ ap (λ l. text ++ l) (sym (text-append names so_far.ts q.text));
-            wakes_are = b.wakes_are ∙ ap (λ l. l ++ q.wakes) so_far.wakes_are
-                ∙ append_assoc (wakes_meant wakes) so_far.ws q.wakes;
-          },
-          ap (λ (r : Run Stopped). record r { store = after_sample cod r.store }) b.machine_is
-              ∙ sym (ap silent (next_run cod code.mains code.statics n)),
-        )
-
-    -- its instructions are counted
-    pub count_made : (count count2 : ℕ) → count ≡ as_counted (at n).begun
-        → Counts (settled cod (bound n) (seen old)).begun count count2
-        → count2 ≡ as_counted (at (suc n)).begun
-    count_made count count2 is counts =
-        let q = next n in
-        let more : Counts q.begun count count2 =
-        subst (λ r. Counts (settled cod (bound n) r).begun count count2) stands counts in
-        let grows : (at (suc n)).begun ≡ (at n).begun + q.begun =
-        (next_grows cod code.mains code.statics n).begun_grows in
-        counted_on (at n).begun q.begun count count2 is more ∙ ap as_counted (sym grows)
+        ∙ ap (λ v. v ∷ []) (sym same) in
+        record {
+          xs = so_far.xs ++ (sampled cod q).samples;
+          ts = so_far.ts ++ q.text;
+          ws = so_far.ws ++ q.wakes;
+          begun = so_far.begun + q.begun;
+          grows = grows_more (at from) (at n) (at (suc n)) so_far.xs (sampled cod q).samples so_far.ts q.text
+              so_far.ws q.wakes so_far.begun q.begun so_far.grows (next_grows cod code.mains code.statics n);
+          samples_are = pushed ∙ ap (λ l. l ++ value ∷ []) so_far.samples_are
+              ∙ append_assoc samples (sheet_samples so_far.xs) (value ∷ [])
+              ∙ ap (λ l. samples ++ (sheet_samples so_far.xs ++ l)) (sym one)
+              ∙ ap (λ l. samples ++ l)
+              (sym (map-append sheet_sample so_far.xs (sampled cod q).samples));
+          text_is = b.text_is ∙ ap (λ l. l ++ text_bytes names q.text) so_far.text_is
+              ∙ append_assoc text (text_bytes names so_far.ts) (text_bytes names q.text)
+              ∙ ap (λ l. text ++ l) (sym (text-append names so_far.ts q.text));
+          wakes_are = b.wakes_are ∙ ap (λ l. l ++ q.wakes) so_far.wakes_are
+              ∙ append_assoc (wakes_meant wakes) so_far.ws q.wakes;
+        }
 
     -- a failure on the way
     pub front_made : (k : ℕ) (samples3 : List ℤ) → samples3 ≡ samples2
-        → TellsFront names (settled cod (bound n) (seen old)) text2 text3 wakes2 wakes3
+        → TellsFront names (next n) text2 text3 wakes2 wakes3
         → AddsFronts names (block_between (at from) (at (suc n + k))) samples samples3 text text3 wakes wakes3
-    front_made k samples3 same front =
-        let f : TellsFront names (next n) text2 text3 wakes2 wakes3 =
-        subst (λ r. TellsFront names (settled cod (bound n) r) text2 text3 wakes2 wakes3) stands front in
+    front_made k samples3 same f =
         let q = next n in
         let a = at from in
         let rest = run_grows cod code.mains code.statics k (suc n) in
@@ -239,12 +246,11 @@ module _ (code : CodeParts) (names : List (List ℕ)) where
       }
 
   -- time goes on
-  pub time_left : (verified : IsVerified code) (n : ℕ) (old m2 : Machine) (text text2 : List ℕ)
-      (wakes wakes2 : List MachineWake) → Ready n (seen old) → n < MAX_SAMPLES
-      → Becomes names (settled cod (bound n) (seen old)) m2 text text2 wakes wakes2
-      → (store_of m2.world).now <ℤ pos MAX_SAMPLES
-  time_left verified n old m2 text text2 wakes wakes2 ready lt becomes =
+  pub time_left : (n : ℕ) (m2 : Machine) → Ready n → n < MAX_SAMPLES → Stands m2 (next n)
+      → m2.world.time <ℤ pos MAX_SAMPLES
+  time_left n m2 ready lt becomes =
       let v = ready.can.verified in
-      let s = settles cod turns_at (IsRunStore code) (IsFitShred code v.typing) (lawful code v) (bound n)
-      (seen old) ready.can.sound ready.enough in
-      omega (arith, ints, lt, ap (λ (r : Run Stopped). r.store.now) becomes.machine_is, s.now, ready.now)
+      let fits = IsFitShred code v.typing in
+      let s = settles cod turns_at (IsRunStore code) fits (lawful code v) (bound n) (silent (at n))
+      (quiet_sound (IsRunStore code) fits (at n) ready.can.sound) ready.enough in
+      omega (arith, ints, lt, now_is m2.world (next n).store becomes.store, s.now, ready.now)

@@ -1,14 +1,21 @@
 -- What acts need, and what they keep.
-use Rattle.std.proofs.Common.{◌≡◌, ℕ, suc, ◌+◌, ◌<◌, ◌≤◌, ℤ, pos, negsuc, nat_abs, ◌<ℤ◌, ◌≤ℤ◌, Bool, true, false, cond, not, nat_eq, List, [], ◌∷◌, ◌++◌, fold, filter, find, length, Option, option_map, is_some, Some, None, Result, Ok, Err, OnOk, OnErr, IfNone, refl, sym, ap, ◌∙◌, subst, arith}
+use Rattle.std.proofs.Common.{◌≡◌, ℕ, suc, ◌+◌, ◌<◌, ◌≤◌, ℤ, pos, negsuc, nat_abs, ◌<ℤ◌, ◌≤ℤ◌, Bool, true, false, cond, not, nat_eq, List, [], ◌∷◌, ◌++◌, map, fold, filter, find, length, Option, option_map, is_some, Some, None, Result, Ok, Err, OnOk, OnErr, IfNone, refl, sym, ap, ◌∙◌, subst, arith}
 use Rattle.std.proofs.lemmas.Int.{ints}
 use Rattle.std.proofs.lemmas.Bool.{eq-eqb, ne_eqb}
 use Rattle.ck_meaning.specs.Replay.{Stopped}
-use Rattle.ck_run.specs.Run.{Stop, Shred, Due, Wait, Run, live, live_at, with_child, woken, ended, ended_where, carried_out, carried_out_where}
+use Rattle.ck_run.specs.Run.{Stop, Shred, Wait, Run, live, live_at, with_due, with_child, woken, ended, ended_where, carried_out, carried_out_where}
 use Rattle.ck_run.specs.Counts.{hit, times}
-use Rattle.ck_run.specs.Sound.{IsOrderly, times_due}
+use Rattle.ck_run.specs.Sound.{IsOrderly, times_due, times_waiting}
 use Rattle.ck_run.proofs.Lists.{hit-same, Turn, same, other, turn, found_times, found_among}
 use Rattle.ck_run.proofs.Orderly.{live-once, none-high}
+use Rattle.shreduler.specs.Queue as queue
+use Rattle.event_queue.specs.Waiters as waiters
+use Rattle.machine_world.specs.Worlds.{StandsFor}
+use Rattle.chuck_vm.specs.declared.machine.Machine.{Machine}
+use Rattle.chuck_vm.specs.Machine.{shreds_of, due_of, wait_of, Stands}
 use Rattle.chuck_vm.specs.Telling.{longest}
+use Rattle.chuck_vm.proofs.Dues.{pushed_due}
+use Rattle.chuck_vm.proofs.Queues.{longest_number}
 
 pub some_of : {A : Type 0} (o : Option A) → is_some o ≡ true → (x : A) × (o ≡ Some x)
 some_of None e = absurd (cc e)
@@ -34,48 +41,103 @@ waiter_not_due next event shred run (Some w) orderly found is =
     omega (arith, orderly.once w.shred, live-once run.shreds 1 next w.shred orderly.family.order, waits) in
     ap (λ m. times_due m run) e ∙ none
 
--- a child that was begun
-pub child_is : (run : Run Stopped) (shreds : List (Shred Stopped)) (parent number : ℕ) (due : List Due)
-    (p : Stopped) → shreds ≡ run.shreds ++ record { number = number; parent = parent; progress = p } ∷ []
-    → due ≡ run.due ++ record { time = run.store.now; shred = number } ∷ [] → is_some (live run parent) ≡ true
-    → record run { shreds = shreds; due = due } ≡ with_child run parent number p (live run parent)
-child_is run shreds parent number due p are dues some =
-    let s = some_of (live run parent) some in
-    ap (λ d. record run { shreds = shreds; due = d }) dues
-    ∙ ap (λ ss. record run {
-      shreds = ss;
-      due = run.due
-          ++ record { time = run.store.now; shred = number } ∷ [];
-    }) are
-    ∙ ap (with_child run parent number p) (sym s.1)
+-- a machine to which one more is due stands for the run to which it is
+pub due_stands : (machine : Machine) (run : Run Stopped) (time : ℤ) (n : ℕ) (dues : List queue.Due)
+    → map due_of dues ≡ map due_of machine.due ++ record { time = time; shred = n } ∷ []
+    → Stands machine run → Stands (record machine { due = dues }) (with_due run time n)
+due_stands machine run time n dues pushed stands = record {
+  store = stands.store;
+  shreds = stands.shreds;
+  due = pushed_due (map due_of machine.due) (map due_of dues) run.due (record { time = time; shred = n }) pushed
+      stands.due;
+  waits = stands.waits;
+}
 
-pub no_child : (run : Run Stopped) (parent number : ℕ) (p : Stopped) → is_some (live run parent) ≡ false
-    → run ≡ with_child run parent number p (live run parent)
-no_child run parent number p none = ap (with_child run parent number p) (sym (none_of (live run parent) none))
+-- and one for which one more waits
+pub wait_stands : (machine : Machine) (run : Run Stopped) (event n : ℕ) (waits : List waiters.Wait)
+    → map wait_of waits ≡ map wait_of machine.waits ++ record { event = event; shred = n } ∷ []
+    → Stands machine run
+    → Stands (record machine { waits = waits })
+    (record run { waits = run.waits ++ record { event = event; shred = n } ∷ [] })
+wait_stands machine run event n waits pushed stands =
+    let wait : Wait = record { event = event; shred = n } in
+    record {
+      store = stands.store;
+      shreds = stands.shreds;
+      due = stands.due;
+      waits = pushed ∙ ap (λ ws. ws ++ wait ∷ []) stands.waits;
+    }
+
+-- a child that was begun
+pub child_stands : (old new : Machine) (run : Run Stopped) (parent number : ℕ) (p : Stopped)
+    → new.world ≡ old.world → new.waits ≡ old.waits
+    → shreds_of new.code new.shreds.items
+    ≡ shreds_of old.code old.shreds.items ++ record { number = number; parent = parent; progress = p } ∷ []
+    → map due_of new.due ≡ map due_of old.due ++ record { time = run.store.now; shred = number } ∷ []
+    → is_some (live run parent) ≡ true → Stands old run
+    → Stands new (with_child run parent number p (live run parent))
+child_stands old new run parent number p world waits are pushed some stands =
+    let child : Shred Stopped = record { number = number; parent = parent; progress = p } in
+    let s = some_of (live run parent) some in
+    subst (λ o. Stands new (with_child run parent number p o)) (sym s.1) (record {
+      store = subst (λ w. StandsFor w run.store) (sym world) stands.store;
+      shreds = are ∙ ap (λ ss. ss ++ child ∷ []) stands.shreds;
+      due = pushed_due (map due_of old.due) (map due_of new.due) run.due
+          (record { time = run.store.now; shred = number }) pushed stands.due;
+      waits = ap (map wait_of) waits ∙ stands.waits;
+    })
+
+pub no_child : (machine : Machine) (run : Run Stopped) (parent number : ℕ) (p : Stopped)
+    → is_some (live run parent) ≡ false → Stands machine run
+    → Stands machine (with_child run parent number p (live run parent))
+no_child machine run parent number p none stands =
+    subst (λ o. Stands machine (with_child run parent number p o)) (sym (none_of (live run parent) none)) stands
 
 -- a waiter that was found is woken
-pub woken_is : (run : Run Stopped) (event shred : ℕ) (waits : List Wait) (due : List Due) (o : Option Wait)
-    → longest event run ≡ o → Some shred ≡ option_map (λ (w : Wait). w.shred) o
-    → waits ≡ filter (λ other. not (nat_eq other.shred shred)) run.waits → due ≡ run.due
-    ++ record { time = run.store.now; shred = shred } ∷ []
-    → (record run { waits = waits; due = due } ≡ woken run (longest event run))
+pub woken_stands : (machine : Machine) (run : Run Stopped) (event shred : ℕ) (waits : List waiters.Wait)
+    (dues : List queue.Due) (o : Option Wait) → longest event run ≡ o
+    → Some shred ≡ option_map (λ (w : Wait). w.shred) o
+    → map wait_of waits ≡ filter (λ other. not (nat_eq other.shred shred)) (map wait_of machine.waits)
+    → map due_of dues ≡ map due_of machine.due ++ record { time = run.store.now; shred = shred } ∷ []
+    → Stands machine run
+    → Stands (record machine { waits = waits; due = dues }) (woken run (longest event run))
     × (true ≡ is_some (longest event run))
-woken_is run event shred waits due None found is left pushed = absurd (cc is)
-woken_is run event shred waits due (Some w) found is left pushed =
-    let e : shred ≡ w.shred = cc is in (
-      ap (λ ws. record run { waits = ws; due = due }) left
-          ∙ ap (λ ds. record run {
-            waits = filter (λ other. not (nat_eq other.shred shred)) run.waits;
-            due =
-                ds;
-          }) pushed
-          ∙ ap (λ n. record run {
-            waits = filter (λ other. not (nat_eq other.shred n)) run.waits;
-            due = run.due
-                ++ record { time = run.store.now; shred = n } ∷ [];
-          }) e
-          ∙ ap (woken run) (sym found),
+woken_stands machine run event shred waits dues None found is left pushed stands = absurd (cc is)
+woken_stands machine run event shred waits dues (Some w) found is left pushed stands =
+    let new : Machine = record machine { waits = waits; due = dues } in
+    let woke : ℕ → Run Stopped = λ n. record run {
+      waits = filter (λ other. not (nat_eq other.shred n)) run.waits;
+      due = run.due ++ record { time = run.store.now; shred = n } ∷ [];
+    } in
+    let e : shred ≡ w.shred = cc is in
+    let here : Stands new (woke shred) = record {
+      store = stands.store;
+      shreds = stands.shreds;
+      due = pushed_due (map due_of machine.due) (map due_of dues) run.due
+          (record { time = run.store.now; shred = shred }) pushed stands.due;
+      waits = left ∙ ap (filter (λ (other : Wait). not (nat_eq other.shred shred))) stands.waits;
+    } in (
+      subst (λ o. Stands new (woken run o)) (sym found) (subst (λ n. Stands new (woke n)) e here),
       ap is_some (sym found),
+    )
+
+-- the waiters of a run are those of the machine, so that in each run the same one waits longest
+pub longest_stands : (machine : Machine) (run : Run Stopped) (event : ℕ) → Stands machine run
+    → option_map (λ (w : waiters.Wait). w.shred) (waiters.longest event machine.waits)
+    ≡ option_map (λ (w : Wait). w.shred) (longest event run)
+longest_stands machine run event stands =
+    longest_number event machine.waits
+    ∙ ap (λ ws. option_map (λ (w : Wait). w.shred) (find (λ wait. nat_eq wait.event event) ws)) stands.waits
+
+-- none waits twice in any run, as none does in one
+pub waits_apart : (machine : Machine) (one two : Run Stopped) (next : ℕ) → Stands machine one
+    → Stands machine two → IsOrderly next one → (m : ℕ) → times_waiting m two ≤ 1
+waits_apart machine one two next stands stands2 orderly m =
+    omega (
+      arith,
+      ap (times (λ (w : Wait). w.shred) m) (sym stands.waits ∙ stands2.waits),
+      orderly.once m,
+      live-once one.shreds 1 next m orderly.family.order,
     )
 
 pub no_waiter : (o : Option Wait) → None ≡ option_map (λ (w : Wait). w.shred) o → o ≡ None
@@ -188,13 +250,11 @@ abbrev pub all_woken : ℕ → Run Stopped → Run Stopped
 all_woken event run =
     fold (λ now wait. woken now (Some wait)) run (filter (λ wait. nat_eq wait.event event) run.waits)
 
-pub woken_next : (next event : ℕ) (run : Run Stopped) (o : Option Wait) → IsOrderly next run
+pub woken_next : (event : ℕ) (run : Run Stopped) (o : Option Wait) → ((m : ℕ) → times_waiting m run ≤ 1)
     → longest event run ≡ o → is_some o ≡ true → all_woken event (woken run o) ≡ all_woken event run
-woken_next next event run None orderly found some = absurd (cc some)
-woken_next next event run (Some w) orderly found some =
-    ap (fold (λ now wait. woken now (Some wait)) run)
-    (sym (first_waiter event run.waits w found
-    (λ m. omega (arith, orderly.once m, live-once run.shreds 1 next m orderly.family.order))))
+woken_next event run None apart found some = absurd (cc some)
+woken_next event run (Some w) apart found some =
+    ap (fold (λ now wait. woken now (Some wait)) run) (sym (first_waiter event run.waits w found apart))
 
 none_filter : (event : ℕ) (waits : List Wait) → find (λ wait. nat_eq wait.event event) waits ≡ None
     → filter (λ wait. nat_eq wait.event event) waits ≡ []

@@ -1,21 +1,15 @@
 -- What running a slice leaves.
-use Rattle.std.proofs.Common.{◌≡◌, ℕ, List, slice_get, slice_set, Result, Ok, Err, IfOk, Some, IfSome, OnOk, refl, sym, ◌∙◌}
+use Rattle.std.proofs.Common.{◌≡◌, ℕ, List, slice_get, slice_set, Result, Ok, Err, IfOk, Some, IfSome, OnOk, sym, ◌∙◌}
 use Rattle.fixed_point.specs.declared.memory.Memory.{Memory}
 use Rattle.ck_store.specs.Store.{Store}
 use Rattle.shred_state.specs.Frames.{Standing}
 use Rattle.machine_world.specs.declared.acts.Act.{Act}
 use Rattle.machine_world.specs.declared.course.Stop.{Stop}
-use Rattle.machine_world.specs.Worlds.{counted}
 use Rattle.stack_machine.specs.Slices.{Tells, slice_of, begun_of}
-use Rattle.machine_world.specs.Worlds.{Parts, StandsFor, store_of}
+use Rattle.machine_world.specs.Worlds.{StandsFor, counted}
 use Rattle.chuck_vm.specs.declared.machine.Machine.{Machine}
 use Rattle.chuck_vm.specs.Running.{Ran}
 use Rattle.chuck_vm.proofs.Lists.{at_some}
-
--- a world's time is its store's
-pub time_of : (world : Parts) → (store_of world).now ≡ world.time
-unfolding store_of
-time_of world = refl
 
 module _ (old new : Machine) (place : ℕ) (shred after : Standing) (acts : List Act) where
   -- but for the shred and the world all is as it was

@@ -1,5 +1,5 @@
 -- All that is due runs, slice by slice.
-use Rattle.std.proofs.Common.{◌≡◌, ℕ, zero, suc, ◌+◌, ◌<◌, ◌≤◌, List, [], ◌++◌, Option, option_map, Some, None, refl, sym, ap, ◌∙◌, subst, arith, append_assoc, append-nil}
+use Rattle.std.proofs.Common.{◌≡◌, ℕ, zero, suc, ◌+◌, ◌<◌, ◌≤◌, ℤ, List, [], ◌++◌, Option, option_map, Some, None, refl, sym, ap, ◌∙◌, subst, arith, append_assoc, append-nil}
 use Rattle.ck_code.specs.declared.code.CodeParts.{CodeParts}
 use Rattle.ck_code.specs.Verified.{IsVerified}
 use Rattle.ck_store.specs.Store.{Store, At, On, End}
@@ -11,35 +11,47 @@ use Rattle.ck_run.specs.Sound.{IsSound, measure}
 use Rattle.ck_run.proofs.Frame.{told-settled}
 use Rattle.ck_run.proofs.Growing.{as_told, told_more}
 use Rattle.ck_run.proofs.Silences.{slice_samples}
-use Rattle.ck_run.proofs.Settling.{Leaves, due_leaves, IsTaken, taken_sound}
+use Rattle.ck_run.proofs.Settling.{Leaves, due_leaves, taken_sound}
 use Rattle.run_laws.specs.FitRuns.{turns_at, IsRunStore, IsFitShred}
 use Rattle.run_laws.proofs.Lawful.{lawful}
+use Rattle.shreduler.specs.Queue as queue
 use Rattle.chuck_vm.specs.declared.machine.Machine.{Machine}
 use Rattle.chuck_vm.specs.declared.wake.Wake.{Wake as MachineWake}
-use Rattle.chuck_vm.specs.Machine.{seen}
+use Rattle.chuck_vm.specs.Machine.{Stands}
+use Rattle.chuck_vm.specs.Running.{CanRunSlice}
 use Rattle.chuck_vm.specs.Telling.{Becomes, TellsFront}
 use Rattle.chuck_vm.specs.Tallies.{Counts}
 use Rattle.chuck_vm.specs.Wakes.{wakes_meant}
 use Rattle.chuck_vm.proofs.Applying.{text-append}
 use Rattle.chuck_vm.proofs.Counting.{none_counted, more_counted}
 use Rattle.chuck_vm.proofs.Ends.{dues_but}
+use Rattle.chuck_vm.proofs.Stands.{turns_left, measure_is, told_alike, quiet_stands, unquiet_can, first_stands, taken_stands}
 
--- carrying out a request begins no instruction
-carried_begun : (run : Run Stopped) (n : ℕ) (stop : Stop) → (carried_out run n stop).begun ≡ run.begun
-carried_begun run n (Asked (At time)) = refl
-carried_begun run n (Asked (On event)) = refl
-carried_begun run n (Asked End) = refl
-carried_begun run n (Trapped trap place) = refl
-carried_begun run n WentWrong = refl
+-- carrying out a request tells nothing
+pub record TellsNone (before after : Run Stopped) : Type 0 where
+  pub text_is : after.text ≡ before.text
+  pub wakes_are : after.wakes ≡ before.wakes
+  pub begun_are : after.begun ≡ before.begun
 
-pub where_begun : (run : Run Stopped) (o : Option (Shred Stopped)) (stop : Stop)
-    → (carried_out_where run o stop).begun ≡ run.begun
-where_begun run None stop = refl
-where_begun run (Some s) stop = carried_begun run s.number stop
+carried_tells : (run : Run Stopped) (n : ℕ) (stop : Stop) → TellsNone run (carried_out run n stop)
+carried_tells run n (Asked (At time)) = record { text_is = refl; wakes_are = refl; begun_are = refl }
+carried_tells run n (Asked (On event)) = record { text_is = refl; wakes_are = refl; begun_are = refl }
+carried_tells run n (Asked End) = record { text_is = refl; wakes_are = refl; begun_are = refl }
+carried_tells run n (Trapped trap place) = record { text_is = refl; wakes_are = refl; begun_are = refl }
+carried_tells run n WentWrong = record { text_is = refl; wakes_are = refl; begun_are = refl }
+
+pub where_tells : (run : Run Stopped) (o : Option (Shred Stopped)) (stop : Stop)
+    → TellsNone run (carried_out_where run o stop)
+where_tells run None stop = record { text_is = refl; wakes_are = refl; begun_are = refl }
+where_tells run (Some s) stop = carried_tells run s.number stop
 
 pub as_all_told : (run : Run Stopped) → run.samples ≡ []
     → run ≡ told [] run.text run.wakes run.begun (silent run)
 as_all_told run none = as_told run ∙ ap (λ xs. told xs run.text run.wakes run.begun (silent run)) none
+
+-- the next slice of a shred, of what it tells
+abbrev pub slice_in : CodeParts → (number : ℕ) → Run Stopped → Run Stopped
+slice_in code number run = run_slice (by_code code) (silent run) (live run number)
 
 module _ (code : CodeParts) (names : List (List ℕ)) (verified : IsVerified code) where
   abbrev cod : Runner Stopped
@@ -145,12 +157,11 @@ module _ (code : CodeParts) (names : List (List ℕ)) (verified : IsVerified cod
     pub one_settled : (machine : Machine) (count3 : ℕ) (text3 : List ℕ) (wakes3 : List MachineWake)
         → Becomes names (ran number now) machine text2 text3 wakes2 wakes3
         → Counts (ran number now).begun count2 count3
-        → Settling start (seen machine) count count3 text text3 wakes wakes3
+        → Settling start (silent (ran number now)) count count3 text text3 wakes wakes3
     one_settled machine count3 text3 wakes3 becomes counts =
         let after = ran number now in
         let leaves = (ran_leaves number now so_far.sound is).0 in
-        let S : Run Stopped → Type 0 = λ r. Settling start r count count3 text text3 wakes wakes3 in
-        subst S (sym becomes.machine_is) (record {
+        record {
           sound = record {
             store = leaves.sound.store;
             family = leaves.sound.family;
@@ -167,7 +178,7 @@ module _ (code : CodeParts) (names : List (List ℕ)) (verified : IsVerified cod
           wakes_are = becomes.wakes_are ∙ ap (λ w. w ++ after.wakes) so_far.wakes_are
               ∙ append_assoc (wakes_meant wakes) so_far.more after.wakes;
           goes = one_more;
-        })
+        }
 
     pub fewer_slices : measure turns_at (silent (ran number now)) < measure turns_at now
     fewer_slices = omega (arith, (ran_leaves number now so_far.sound is).0.fewer)
@@ -210,23 +221,22 @@ module _ (code : CodeParts) (names : List (List ℕ)) (verified : IsVerified cod
   nothing_due (suc bound) now none = ap (λ o. after_due cod now o (settled cod bound)) none
 
   -- so none runs where none is due
-  pub none_runs : (machine : Machine) (bound : ℕ) (text : List ℕ) (wakes : List MachineWake)
-      → first_due (seen machine).store.now (seen machine).due ≡ None
-      → Becomes names (settled cod bound (seen machine)) machine text text wakes wakes
-  none_runs machine bound text wakes none =
-      subst (λ r. Becomes names r machine text text wakes wakes) (sym (nothing_due bound (seen machine) none))
+  pub none_runs : (machine : Machine) (run : Run Stopped) (bound : ℕ) (text : List ℕ) (wakes : List MachineWake)
+      → Stands machine run → first_due run.store.now run.due ≡ None
+      → Becomes names (settled cod bound (silent run)) machine text text wakes wakes
+  none_runs machine run bound text wakes stands none =
+      subst (λ r. Becomes names r machine text text wakes wakes) (sym (nothing_due bound (silent run) none))
       (record {
-        machine_is = refl;
+        stands = quiet_stands machine run stands;
         text_is = sym (append-nil text);
         wakes_are =
             sym (append-nil (wakes_meant wakes));
       })
 
-  pub none_begun : (machine : Machine) (bound count : ℕ)
-      → first_due (seen machine).store.now (seen machine).due ≡ None
-      → Counts (settled cod bound (seen machine)).begun count count
-  none_begun machine bound count none =
-      subst (λ (r : Run Stopped). Counts r.begun count count) (sym (nothing_due bound (seen machine) none))
+  pub none_begun : (run : Run Stopped) (bound count : ℕ) → first_due run.store.now run.due ≡ None
+      → Counts (settled cod bound (silent run)).begun count count
+  none_begun run bound count none =
+      subst (λ (r : Run Stopped). Counts r.begun count count) (sym (nothing_due bound (silent run) none))
       (none_counted count)
 
   none_due : (o : Option Due) → None ≡ option_map (λ (d : Due). d.shred) o → o ≡ None
@@ -234,21 +244,21 @@ module _ (code : CodeParts) (names : List (List ℕ)) (verified : IsVerified cod
   none_due (Some d) e = absurd (cc e)
 
   -- all have run
-  module _ (start : Run Stopped) (machine : Machine) (count count2 : ℕ) (text text2 : List ℕ)
+  module _ (start now : Run Stopped) (machine : Machine) (count count2 : ℕ) (text text2 : List ℕ)
       (wakes wakes2 : List MachineWake)
-      (none : None ≡ option_map (λ (d : Due). d.shred) (first_due (seen machine).store.now (seen machine).due))
-      (so_far : Settling start (seen machine) count count2 text text2 wakes wakes2)
+      (none : None ≡ option_map (λ (d : Due). d.shred) (first_due now.store.now now.due))
+      (stands : Stands machine now)
+      (so_far : Settling start (silent now) count count2 text text2 wakes wakes2)
       (bound : ℕ) (le : measure turns_at start ≤ bound) where
-    whole : settled cod bound start ≡ told [] so_far.pieces so_far.more so_far.begun (seen machine)
+    whole : settled cod bound start ≡ told [] so_far.pieces so_far.more so_far.begun (silent now)
     whole =
         let goes = so_far.goes bound le in
         goes.2 ∙ ap (told [] so_far.pieces so_far.more so_far.begun)
-        (nothing_due goes.0 (seen machine)
-        (none_due (first_due (seen machine).store.now (seen machine).due) none))
+        (nothing_due goes.0 (silent now) (none_due (first_due now.store.now now.due) none))
 
     pub all_settled : Becomes names (settled cod bound start) machine text text2 wakes wakes2
     all_settled = record {
-      machine_is = sym (ap silent whole);
+      stands = told_alike machine now (settled cod bound start) (sym (ap silent whole)) stands;
       text_is = so_far.text_is ∙ ap (λ ps. text ++ text_bytes names ps) (sym (append-nil so_far.pieces))
           ∙ ap (λ (r : Run Stopped). text ++ text_bytes names r.text) (sym whole);
       wakes_are = so_far.wakes_are ∙ ap (λ ws. wakes_meant wakes ++ ws) (sym (append-nil so_far.more))
@@ -262,17 +272,100 @@ module _ (code : CodeParts) (names : List (List ℕ)) (verified : IsVerified cod
         let none : (settled cod bound start).begun ≡ so_far.begun = omega (arith, begun) in
         subst (λ n. Counts n count count2) (sym none) so_far.counts
 
-  -- where a shred was taken, its run is sound and it is idle
-  pub taken_fits : (number : ℕ) (now : Run Stopped) (dues : List Due) → dues ≡ dues_but number now.due
-      → Sound now → Some number ≡ option_map (λ (d : Due). d.shred) (first_due now.store.now now.due)
-      → IsTaken cod turns_at (IsRunStore code) Fits (lawful code verified) number (record now { due = dues })
-  taken_fits number now dues same sound is =
+  -- where a shred is taken, the run is sound and the shred is idle
+  pub taken_can : (number : ℕ) (now : Run Stopped) → Sound now
+      → Some number ≡ option_map (λ (d : Due). d.shred) (first_due now.store.now now.due)
+      → CanRunSlice code number (taken number now)
+  taken_can number now sound is =
       let d = due_of number (first_due now.store.now now.due) is in
-      let T : List Due
-      → Type 0 = λ ds. IsTaken cod turns_at (IsRunStore code) Fits (lawful code verified) number
-      (record now { due = ds }) in
-      let R : ℕ → Type 0 = λ n. IsTaken cod turns_at (IsRunStore code) Fits (lawful code verified) n
-      (taken n now) in
-      subst T (sym same)
-      (subst R d.2
-      (taken_sound cod turns_at (IsRunStore code) Fits (lawful code verified) now d.0 sound d.1))
+      let fits =
+      taken_sound cod turns_at (IsRunStore code) Fits (lawful code verified) now d.0 sound d.1 in
+      subst (λ n. CanRunSlice code n (taken n now)) d.2
+      (record { can = record { verified = verified; sound = fits.sound }; idle = fits.idle })
+
+  -- the machine stands for what came of a run by some slices
+  pub record Underway (start : Run Stopped) (machine : Machine) (count count2 : ℕ) (text text2 : List ℕ)
+      (wakes wakes2 : List MachineWake) : Type 0 where
+    pub now : Run Stopped
+    pub stands : Stands machine now
+    pub settling : Settling (silent start) (silent now) count count2 text text2 wakes wakes2
+
+  pub none_underway : (start : Run Stopped) (machine : Machine) (count : ℕ) (text : List ℕ)
+      (wakes : List MachineWake) → Stands machine start → Sound (silent start)
+      → Underway start machine count count text text wakes wakes
+  none_underway start machine count text wakes stands sound =
+      record { now = start; stands = stands; settling = none_settled (silent start) count text wakes sound }
+
+  -- the machine takes the shred that comes next in a run, and runs its slice
+  pub record Turn (start : Run Stopped) (machine : Machine) (left : List queue.Due) (number count count2 : ℕ)
+      (text text2 : List ℕ) (wakes wakes2 : List MachineWake) : Type 0 where
+    pub run : Run Stopped
+    pub stands : Stands (record machine { due = left }) run
+    pub can : CanRunSlice machine.code number run
+    pub goes : (new : Machine) (count3 : ℕ) (text3 : List ℕ) (wakes3 : List MachineWake)
+        → Becomes names (slice_in machine.code number run) new text2 text3 wakes2 wakes3
+        → Counts (slice_in machine.code number run).begun count2 count3
+        → Underway start new count count3 text text3 wakes wakes3
+    pub fewer : (new : Machine) (text3 : List ℕ) (wakes3 : List MachineWake)
+        → Becomes names (slice_in machine.code number run) new text2 text3 wakes2 wakes3
+        → turns_left new < turns_left machine
+    pub front : (text3 : List ℕ) (wakes3 : List MachineWake)
+        → TellsFront names (slice_in machine.code number run) text2 text3 wakes2 wakes3 → (bound : ℕ)
+        → measure turns_at start ≤ bound
+        → TellsFront names (settled cod bound (silent start)) text text3 wakes wakes3
+
+  module _ (start : Run Stopped) (machine : Machine) (count count2 : ℕ) (text text2 : List ℕ)
+      (wakes wakes2 : List MachineWake) (same : machine.code ≡ code)
+      (so_far : Underway start machine count count2 text text2 wakes wakes2)
+      (number : ℕ) (time : ℤ) (left : List queue.Due) (clock : time ≡ machine.world.time)
+      (first : Some number ≡ option_map (λ (d : queue.Due). d.shred) (queue.first_due time machine.due))
+      (without : left ≡ queue.without number machine.due) where
+    abbrev before : Run Stopped
+    before = silent so_far.now
+
+    next_is : Some number ≡ option_map (λ (d : Due). d.shred) (first_due before.store.now before.due)
+    next_is = first ∙ first_stands machine so_far.now time so_far.stands clock
+
+    next_can : CanRunSlice machine.code number (taken number so_far.now)
+    next_can =
+        let can = taken_can number before so_far.settling.sound next_is in
+        subst (λ code. CanRunSlice code number (taken number so_far.now)) (sym same)
+        (record { can = unquiet_can code (taken number so_far.now) can.can; idle = can.idle })
+
+    pub turn : Turn start machine left number count count2 text text2 wakes wakes2
+    turn = record {
+      run = taken number so_far.now;
+      stands = taken_stands machine so_far.now number left so_far.stands without;
+      can = next_can;
+      goes = λ new count3 text3 wakes3 becomes counts.
+          let B : CodeParts → Type 0 =
+          λ code. Becomes names (slice_in code number (taken number so_far.now)) new text2 text3 wakes2
+          wakes3 in
+          let C : CodeParts → Type 0 =
+          λ code. Counts (slice_in code number (taken number so_far.now)).begun count2 count3 in
+          let here : Becomes names (ran number before) new text2 text3 wakes2 wakes3 = subst B same becomes in
+          record {
+            now = ran number before;
+            stands = here.stands;
+            settling = one_settled (silent start) before number count count2 text text2 wakes wakes2 refl next_is
+                so_far.settling new count3 text3 wakes3 here (subst C same counts);
+          };
+      fewer = λ new text3 wakes3 becomes.
+          let B : CodeParts → Type 0 =
+          λ code. Becomes names (slice_in code number (taken number so_far.now)) new text2 text3 wakes2
+          wakes3 in
+          let here : Becomes names (ran number before) new text2 text3 wakes2 wakes3 = subst B same becomes in
+          omega (
+            arith,
+            fewer_slices (silent start) before number count count2 text text2 wakes wakes2 refl next_is
+                so_far.settling,
+            measure_is new (ran number before) here.stands,
+            measure_is machine so_far.now so_far.stands,
+          );
+      front = λ text3 wakes3 front bound le.
+          let F : CodeParts → Type 0 =
+          λ code. TellsFront names (slice_in code number (taken number so_far.now)) text2 text3 wakes2
+          wakes3 in
+          front_settled (silent start) before number count count2 text text2 wakes wakes2 refl next_is
+          so_far.settling text3 wakes3 (subst F same front) bound le;
+    }

@@ -1,5 +1,5 @@
 -- The slice that the machine runs is the one of the run.
-use Rattle.std.proofs.Common.{◌≡◌, ℕ, zero, suc, ◌+◌, ◌<◌, ◌≤◌, ℤ, nat_eq, List, [], ◌∷◌, ◌++◌, fold, map, find, length, false, slice_set, Option, Some, None, inl, inr, IfSome, slice_get, refl, sym, ap, ◌∙◌, subst, arith, append_assoc, append-nil}
+use Rattle.std.proofs.Common.{◌≡◌, ℕ, zero, suc, ◌+◌, ◌<◌, ◌≤◌, ℤ, nat_eq, List, [], ◌∷◌, ◌++◌, fold, map, find, length, false, slice_set, Option, is_some, Some, None, inl, inr, IfSome, slice_get, refl, sym, ap, ◌∙◌, subst, arith, append_assoc, append-nil}
 use Rattle.std.proofs.lemmas.Bool.{eq-eqb, ne_eqb}
 use Rattle.std.proofs.lemmas.Option.{slice_get_cases}
 use Rattle.ck_code.specs.declared.code.CodeParts.{CodeParts}
@@ -8,7 +8,7 @@ use Rattle.ck_code.specs.Verified.{IsVerified}
 use Rattle.ck_store.specs.Steps.{pick}
 use Rattle.ck_store.specs.Store.{Store, State, Act, At, On, End}
 use Rattle.ck_meaning.specs.Replay.{Stopped, by_code, slice_left, slice_with, waiting}
-use Rattle.ck_run.specs.Run.{Stop, Asked, Trapped, Slice, Runner, Shred, Wake, TrapAt, Run, live, applied, carried_out_where, came, noted, trap_of, trap_piece, after_slice, run_slice}
+use Rattle.ck_run.specs.Run.{Stop, Asked, Trapped, WentWrong, Slice, Runner, Shred, Wake, TrapAt, Run, has, live, applied, carried_out, carried_out_where, came, noted, trap_of, trap_piece, after_slice, run_slice, written}
 use Rattle.ck_run.specs.Report.{text_bytes, trap_lines}
 use Rattle.ck_run.specs.Told.{silent, told, AddsFront}
 use Rattle.ck_run.specs.Family.{AreInOrder}
@@ -27,24 +27,27 @@ use Rattle.machine_world.specs.Acts.{all_acts_meant}
 use Rattle.machine_world.specs.Shown.{shown, frames_of}
 use Rattle.machine_world.specs.Worlds.{counted}
 use Rattle.stack_machine.specs.Slices.{Tells, slice_of, begun_of}
-use Rattle.machine_world.specs.Worlds.{Parts, store_of}
+use Rattle.machine_world.specs.Worlds.{Parts}
 use Rattle.machine_world.specs.declared.acts.Act.{Act as Recorded}
 use Rattle.machine_world.specs.declared.course.Stop.{Stop as MachineStop}
 use Rattle.machine_world.specs.declared.course.Stop.TheVariants as stop
-use Rattle.chuck_vm.proofs.Ran.{time_of}
 use Rattle.chuck_vm.specs.declared.machine.Machine.{Machine}
 use Rattle.chuck_vm.specs.declared.wake.Wake.{Wake as MachineWake}
-use Rattle.chuck_vm.specs.Machine.{stopped_of, shred_of, shreds_of, due_of, wait_of, seen}
-use Rattle.chuck_vm.specs.Running.{CanRun, Ran}
+use Rattle.chuck_vm.specs.Machine.{stopped_of, shred_of, shreds_of, due_of, wait_of, numbers, Stands, HasRun, Does}
+use Rattle.chuck_vm.specs.Running.{CanRunSlice, IsIdle, IsNumbered, Ran}
 use Rattle.chuck_vm.specs.Telling.{CanBegin, Becomes, TellsFront}
 use Rattle.chuck_vm.specs.Tallies.{Counts}
 use Rattle.chuck_vm.specs.Wakes.{stop_meant, wakes_meant}
 use Rattle.chuck_vm.proofs.Applying.{acts_text, text-append}
 use Rattle.chuck_vm.proofs.Beginning.{slice_can}
-use Rattle.chuck_vm.proofs.Positions.{above, found_at}
+use Rattle.chuck_vm.proofs.Dues.{same_due, joined_due}
+use Rattle.chuck_vm.proofs.Lists.{of_some}
+use Rattle.chuck_vm.proofs.Orders.{none_of}
+use Rattle.chuck_vm.proofs.Positions.{above, found_at, has-live}
 use Rattle.chuck_vm.proofs.Reports.{all_added}
 use Rattle.chuck_vm.proofs.Counting.{none_counted}
-use Rattle.chuck_vm.proofs.Settles.{as_all_told, where_begun}
+use Rattle.chuck_vm.proofs.Settles.{as_all_told, where_tells}
+use Rattle.chuck_vm.proofs.Stands.{now_is, told_alike, quiet_stands, quiet_sound, order_stands}
 
 -- a shred's slice by the machine is its slice by the code
 same_halt : (code : CodeParts) (shred : Standing) (store : Store)
@@ -65,13 +68,13 @@ unfolding shown
 shown_turns shred = refl
 
 -- the slice, as the machine tells it
-module _ (code : CodeParts) (verified : IsVerified code) (n b : ℕ) (r : Stopped) (w : Store) (w2 : Parts)
-    (new : Standing) (acts : List Recorded) (last : new.last ≡ (store_of w2).now) where
+module _ (code : CodeParts) (verified : IsVerified code) (n b : ℕ) (r : Stopped) (w later : Store)
+    (new : Standing) (acts : List Recorded) (last : new.last ≡ later.now) where
   -- a slice that stopped so, and left these
   abbrev pub slice_told : Stop → Slice Stopped
   slice_told st = record {
     stop = st;
-    store = store_of w2;
+    store = later;
     acts = all_acts_meant acts;
     progress =
         stopped_of code new;
@@ -99,7 +102,7 @@ module _ (code : CodeParts) (verified : IsVerified code) (n b : ℕ) (r : Stoppe
     goes = λ g. absurd (ends g);
   }
 
-  module _ (run : Run Stopped) (s : State) (is : store_of w2 ≡ s.store) (recorded : s.acts
+  module _ (run : Run Stopped) (s : State) (is : later ≡ s.store) (recorded : s.acts
       ≡ all_acts_meant acts) (turns : s.turns ≡ (shown new).turns) where
     -- a shred that ends
     ends_same : (st : Stop) (p : Stopped) → Ends st → (Goes st → ⊥) → Same run st (slice_left b p st s)
@@ -107,7 +110,7 @@ module _ (code : CodeParts) (verified : IsVerified code) (n b : ℕ) (r : Stoppe
         let F : Store → List Act → Slice Stopped =
         λ w a. record { stop = st; store = w; acts = a; progress = stopped_of code new; begun = b } in
         let left : slice_left b (stopped_of code new) st s ≡ slice_told st = ap (λ w. F w s.acts) (sym is)
-        ∙ ap (F (store_of w2)) recorded in
+        ∙ ap (F later) recorded in
         record {
           after = sym (after_ends n (stopped_of code new) (by_code code) run (slice_left b p st s) ends)
               ∙ ap (after_slice (by_code code) run n) left;
@@ -131,12 +134,12 @@ module _ (code : CodeParts) (verified : IsVerified code) (n b : ℕ) (r : Stoppe
           begun = b;
         } in
         let theirs = slice_left b (waiting (stopped_at code frames) frames s) st s in
-        let upto : theirs ≡ F (store_of w2) (all_acts_meant acts) new.turns (store_of w2).now =
+        let upto : theirs ≡ F later (all_acts_meant acts) new.turns later.now =
         ap (λ w. F w s.acts s.turns w.now) (sym is)
-        ∙ ap (λ a. F (store_of w2) a s.turns (store_of w2).now) recorded
-        ∙ ap (λ t. F (store_of w2) (all_acts_meant acts) t (store_of w2).now) (turns ∙ shown_turns new) in
+        ∙ ap (λ a. F later a s.turns later.now) recorded
+        ∙ ap (λ t. F later (all_acts_meant acts) t later.now) (turns ∙ shown_turns new) in
         let whole : theirs ≡ slice_told st = upto
-        ∙ ap (F (store_of w2) (all_acts_meant acts) new.turns) (sym last) in
+        ∙ ap (F later (all_acts_meant acts) new.turns) (sym last) in
         record {
           after = ap (after_slice (by_code code) run n) whole;
           kept = subst Kept whole;
@@ -144,26 +147,27 @@ module _ (code : CodeParts) (verified : IsVerified code) (n b : ℕ) (r : Stoppe
               recorded;
         }
 
-  pub same_slice : (run : Run Stopped) (st : MachineStop) (h : Halt) → Tells st h code new w2 acts
+  pub same_slice : (run : Run Stopped) (w2 : Parts) (st : MachineStop) (h : Halt)
+      (tells : Tells st h code new w2 acts) → later ≡ tells.state.store
       → Same run (stop_meant st) (slice_with b r w h)
-  same_slice run (stop.At time) h tells =
+  same_slice run w2 (stop.At time) h tells is =
       subst (λ h. Same run (Asked (At time)) (slice_with b r w h)) (sym tells.so)
-      (goes_same run tells.state tells.store.is tells.recorded tells.turns (Asked (At time)))
-  same_slice run (stop.On event) h tells =
+      (goes_same run tells.state is tells.recorded tells.turns (Asked (At time)))
+  same_slice run w2 (stop.On event) h tells is =
       subst (λ h. Same run (Asked (On event.serial)) (slice_with b r w h)) (sym tells.so)
-      (goes_same run tells.state tells.store.is tells.recorded tells.turns (Asked (On event.serial)))
-  same_slice run stop.Ended h tells =
+      (goes_same run tells.state is tells.recorded tells.turns (Asked (On event.serial)))
+  same_slice run w2 stop.Ended h tells is =
       elim tells.so [
         | inl over ↦ subst (λ h. Same run (Asked End) (slice_with b r w h)) (sym over.1)
-            (ends_same run tells.state tells.store.is tells.recorded tells.turns (Asked End) r tt (λ g. g))
+            (ends_same run tells.state is tells.recorded tells.turns (Asked End) r tt (λ g. g))
         | inr exit ↦
             subst (λ h. Same run (Asked End) (slice_with b r w h)) (sym exit.2)
-            (ends_same run tells.state tells.store.is tells.recorded tells.turns (Asked End)
+            (ends_same run tells.state is tells.recorded tells.turns (Asked End)
             (waiting exit.0 exit.1 tells.state) tt (λ g. g))
       ]
-  same_slice run (stop.Trapped trap place) h tells =
+  same_slice run w2 (stop.Trapped trap place) h tells is =
       subst (λ h. Same run (Trapped trap place) (slice_with b r w h)) (sym tells.so)
-      (ends_same run tells.state tells.store.is tells.recorded tells.turns (Trapped trap place) r tt
+      (ends_same run tells.state is tells.recorded tells.turns (Trapped trap place) r tt
       (λ g. g))
 
 -- the shreds after it
@@ -210,115 +214,165 @@ trap_bytes : (names : List (List ℕ)) (wake : Wake) (o : Option TrapAt) → wak
 trap_bytes names wake None e = refl
 trap_bytes names wake (Some at) e = append-nil (trap_lines names wake wake.trap) ∙ ap (trap_lines names wake) e
 
-module _ (old m2 : Machine) (n place : ℕ) (standing : Standing) (stop : MachineStop) (acts : List Recorded)
-    (can : CanRun old.code (seen old))
-    (idle : times_due n (seen old) + times_waiting n (seen old) ≡ 0) (at : slice_get old.shreds.items place
-    ≡ Some standing) (found : live (seen old) n ≡ Some (shred_of old.code standing))
-    (ran : Ran stop standing place old m2 acts) where
+-- a shred of a run that the machine stood for has run its next slice
+pub record Scene (old m2 : Machine) (n place : ℕ) (stop : MachineStop) (acts : List Recorded)
+    (run : Run Stopped) : Type 0 where
+  pub stands : Stands old run
+  pub can : CanRunSlice old.code n run
+  pub standing : Standing
+  pub at : slice_get old.shreds.items place ≡ Some standing
+  pub found : live run n ≡ Some (shred_of old.code standing)
+  pub ran : Ran stop standing place old m2 acts
+
+-- carrying out a request tells nothing
+carried_quiet : (run : Run Stopped) (n : ℕ) (stop : Stop)
+    → silent (carried_out run n stop) ≡ silent (carried_out (silent run) n stop)
+carried_quiet run n (Asked (At time)) = refl
+carried_quiet run n (Asked (On event)) = refl
+carried_quiet run n (Asked End) = refl
+carried_quiet run n (Trapped trap place) = refl
+carried_quiet run n WentWrong = refl
+
+where_quiet : (run : Run Stopped) (o : Option (Shred Stopped)) (stop : Stop)
+    → silent (carried_out_where run o stop) ≡ silent (carried_out_where (silent run) o stop)
+where_quiet run None stop = refl
+where_quiet run (Some s) stop = carried_quiet run s.number stop
+
+-- the slice that the machine ran is the one of the run
+module _ (old m2 : Machine) (n place : ℕ) (stop : MachineStop) (acts : List Recorded) (run : Run Stopped)
+    (scene : Scene old m2 n place stop acts run) where
   abbrev code : CodeParts
   code = old.code
 
   abbrev cod : Runner Stopped
   cod = by_code code
 
+  -- the run, of what it tells from now on
+  abbrev now : Run Stopped
+  now = silent run
+
+  abbrev verified : IsVerified code
+  verified = scene.can.can.verified
+
   abbrev Fits : Store → Stopped → Type 0
-  Fits store p = IsFitShred code can.verified.typing store p
+  Fits store p = IsFitShred code verified.typing store p
+
+  abbrev standing : Standing
+  standing = scene.standing
+
+  abbrev ran : Ran stop standing place old m2 acts
+  ran = scene.ran
 
   abbrev s : Shred Stopped
   s = shred_of code standing
 
   abbrev before : Store
-  before = store_of old.world
+  before = run.store
+
+  abbrev halt : Halt
+  halt = slice_on code standing.number (enough code) (stopped_at code (frames_of (shown standing)))
+      standing.last standing.turns (frames_of (shown standing)) before
+
+  pub told_so : Tells stop halt code ran.after m2.world acts
+  told_so = subst (λ h. Tells stop h code ran.after m2.world acts) (same_halt code standing before)
+      (ran.tells before scene.stands.store)
 
   abbrev after : Store
-  after = store_of m2.world
+  after = told_so.state.store
+
+  last_is : ran.after.last ≡ after.now
+  last_is = ran.last_is ∙ sym (now_is m2.world after told_so.store)
 
   abbrev meant : List Act
   meant = all_acts_meant acts
 
-  last_is : ran.after.last ≡ after.now
-  last_is = ran.last_is ∙ sym (time_of m2.world)
-
   number : s.number ≡ n
-  number = (found_times (λ (s : Shred Stopped). s.number) n (shreds_of code old.shreds.items) s found).0
+  number = (found_times (λ (s : Shred Stopped). s.number) n run.shreds s scene.found).0
 
   abbrev theirs : Slice Stopped
   theirs = cod.slice s.number s.progress before
 
   s_fits : Fits before s.progress
-  s_fits = (found_has (λ (s : Shred Stopped). Fits before s.progress) (λ t. nat_eq t.number n)
-      (shreds_of code old.shreds.items) s can.sound.fits found).1
+  s_fits = (found_has (λ (s : Shred Stopped). Fits before s.progress) (λ t. nat_eq t.number n) run.shreds s
+      scene.can.can.sound.fits scene.found).1
 
   kept_theirs : IsKept cod turns_at (IsRunStore code) Fits s.progress before theirs
-  kept_theirs = (lawful code can.verified).slices s.number s.progress before can.sound.store s_fits
+  kept_theirs = (lawful code verified).slices s.number s.progress before scene.can.can.sound.store s_fits
 
   abbrev b : ℕ
   b = begun_on code standing.number (enough code) standing.last standing.turns (frames_of (shown standing))
       before
 
   abbrev ours : Slice Stopped
-  ours = slice_told code can.verified s.number b s.progress before m2.world ran.after acts last_is
-      (stop_meant stop)
+  ours = slice_told code verified s.number b s.progress before after ran.after acts last_is (stop_meant stop)
 
-  same : Same code can.verified s.number b s.progress before m2.world ran.after acts last_is (seen old)
-      (stop_meant stop) theirs
+  same : Same code verified s.number b s.progress before after ran.after acts last_is now (stop_meant stop)
+      theirs
   same =
-      same_slice code can.verified s.number b s.progress before m2.world ran.after acts last_is
-      (seen old) stop
-      (slice_on code standing.number (enough code) (stopped_at code (frames_of (shown standing))) standing.last
-      standing.turns (frames_of (shown standing)) before)
-      (subst (λ h. Tells stop h code ran.after m2.world acts) (same_halt code standing before) (ran.tells before (record { is = refl })))
+      same_slice code verified s.number b s.progress before after ran.after acts last_is now m2.world stop halt
+      told_so refl
 
   kept : IsKept cod turns_at (IsRunStore code) Fits s.progress before ours
   kept = same.kept kept_theirs
 
-  taken : IsTaken cod turns_at (IsRunStore code) Fits (lawful code can.verified) s.number (seen old)
-  taken = subst (λ k. IsTaken cod turns_at (IsRunStore code) Fits (lawful code can.verified) k (seen old))
-      (sym number) (record { sound = can.sound; idle = idle })
+  taken : IsTaken cod turns_at (IsRunStore code) Fits (lawful code verified) s.number now
+  taken = subst (λ k. IsTaken cod turns_at (IsRunStore code) Fits (lawful code verified) k now)
+      (sym number) (record {
+        sound = quiet_sound (IsRunStore code) Fits run scene.can.can.sound;
+        idle = scene.can.idle;
+      })
 
-  found2 : live (seen old) s.number ≡ Some s
-  found2 = subst (λ k. live (seen old) k ≡ Some s) (sym number) found
+  found2 : live now s.number ≡ Some s
+  found2 = subst (λ k. live now k ≡ Some s) (sym number) scene.found
 
   abbrev left : Run Stopped
-  left = record (seen old) {
+  left = record now {
     store = after;
-    shreds =
-        map (came s.number (stopped_of code ran.after)) (shreds_of code old.shreds.items);
+    shreds = map (came s.number (stopped_of code ran.after)) run.shreds;
     begun = 0 + b;
+  }
+
+  -- what it tells from its acts on
+  abbrev quiet : Run Stopped
+  quiet = silent left
+
+  pub quiet_is : Stands m2 quiet
+  quiet_is = record {
+    store = told_so.store;
+    shreds = ap (λ code. shreds_of code m2.shreds.items) ran.code_is ∙ ap (shreds_of code) ran.shreds_are
+        ∙ set_came code old.shreds.items 1 before.next_shred place standing ran.after
+        (order_stands old run before.next_shred scene.stands scene.can.can.sound.family.order)
+        scene.at ran.number_is ran.parent_is
+        ∙ ap (map (came s.number (stopped_of code ran.after))) scene.stands.shreds;
+    due = joined_due (map due_of m2.due) (map due_of old.due) run.due
+        (same_due (map due_of m2.due) (map due_of old.due) (ap (map due_of) ran.due_is)) scene.stands.due;
+    waits = ap (map wait_of) ran.waits_are ∙ scene.stands.waits;
   }
 
   -- the instructions are told
   abbrev t : Run Stopped → Run Stopped
   t run = told [] [] [] (0 + b) run
 
-  left_is : left ≡ t (seen m2)
-  left_is =
-      let shreds_are : map (came s.number (stopped_of code ran.after)) (shreds_of code old.shreds.items)
-      ≡ shreds_of m2.code m2.shreds.items =
-      sym (ap (λ code. shreds_of code m2.shreds.items) ran.code_is ∙ ap (shreds_of code) ran.shreds_are
-      ∙ set_came code old.shreds.items 1 before.next_shred place standing ran.after can.sound.family.order at
-      ran.number_is ran.parent_is) in
-      ap (λ shreds. record left { shreds = shreds }) shreds_are
-      ∙ ap (λ d. record (seen m2) { due = d; waits = map wait_of old.waits; begun = 0 + b })
-      (sym (ap (map due_of) ran.due_is))
-      ∙ ap (λ w. record (seen m2) { waits = w; begun = 0 + b }) (sym (ap (map wait_of) ran.waits_are))
-      ∙ ap (λ m. record (seen m2) { begun = m }) (let e : 0 + b ≡ (0 + b) + 0 = omega arith in e)
+  left_is : left ≡ t quiet
+  left_is = ap (λ m. record left { begun = m }) (let e : 0 + b ≡ (0 + b) + 0 = omega arith in e)
 
-  left_fold : (k : ℕ) → fold (applied cod k) left meant ≡ t (fold (applied cod k) (seen m2) meant)
+  left_fold : (k : ℕ) → fold (applied cod k) left meant ≡ t (fold (applied cod k) quiet meant)
   left_fold k = ap (λ r. fold (applied cod k) r meant) left_is
-      ∙ told-acts cod [] [] [] (0 + b) k meant (seen m2)
+      ∙ told-acts cod [] [] [] (0 + b) k meant quiet
 
   -- what is true before and after its acts
-  pub before_acts : (next to : ℕ) × (1 ≤ next) × IsOrderly next (seen m2) × AreNumbered next to meant
+  pub before_acts : (next to : ℕ) × (1 ≤ next) × IsNumbered next m2 × AreNumbered next to meant
   before_acts =
-      let acting = left_acting cod turns_at (IsRunStore code) Fits (lawful code can.verified)
-      (seen old) s taken found2 ours kept in
-      let orderly =
-      subst (IsOrderly before.next_shred) left_is (record { family = acting.family; once = acting.once }) in (
+      let acting = left_acting cod turns_at (IsRunStore code) Fits (lawful code verified) now s taken found2
+      ours kept in (
         before.next_shred,
         after.next_shred,
-        (lawful code can.verified).first before can.sound.store,
-        record { family = orderly.family; once = orderly.once },
+        (lawful code verified).first before scene.can.can.sound.store,
+        record {
+          run = quiet;
+          stands = quiet_is;
+          so = record { family = acting.family; once = acting.once };
+        },
         kept.numbered,
       )
 
@@ -326,21 +380,21 @@ module _ (old m2 : Machine) (n place : ℕ) (standing : Standing) (stop : Machin
   acts_begin =
       subst (λ code. AllSporks (CanBegin code) meant) (sym ran.code_is)
       (subst (AllSporks (CanBegin code)) same.acts_are
-      (slice_can code can.verified s.number s.progress before can.sound.store s_fits))
+      (slice_can code verified s.number s.progress before scene.can.can.sound.store s_fits))
 
-  abbrev acted : Run Stopped
-  acted = fold (applied cod n) (seen m2) meant
+  abbrev pub acted : Run Stopped
+  acted = fold (applied cod n) quiet meant
 
-  pub record Rested : Type 0 where
-    pub orderly : IsOrderly after.next_shred acted
-    pub rests : times_due n acted + times_waiting n acted ≡ 0
-    pub now : acted.store.now ≡ after.now
+  record Rested : Type 0 where
+    orderly : IsOrderly after.next_shred acted
+    rests : times_due n acted + times_waiting n acted ≡ 0
+    now : acted.store.now ≡ after.now
 
-  pub after_acts : Rested
+  after_acts : Rested
   after_acts =
-      let acting = left_acting cod turns_at (IsRunStore code) Fits (lawful code can.verified)
-      (seen old) s taken found2 ours kept in
-      let done = acting_acts cod turns_at (IsRunStore code) Fits (lawful code can.verified) _ s.number after
+      let acting = left_acting cod turns_at (IsRunStore code) Fits (lawful code verified) now s taken found2
+      ours kept in
+      let done = acting_acts cod turns_at (IsRunStore code) Fits (lawful code verified) _ s.number after
       meant left before.next_shred after.next_shred _ acting kept.numbered kept.children in
       let R : Run Stopped → ℕ → Type 0 = λ r k. IsOrderly after.next_shred r
       × (times_due k r + times_waiting k r ≡ 0) × (r.store.now ≡ after.now) in
@@ -350,6 +404,23 @@ module _ (old m2 : Machine) (n place : ℕ) (standing : Standing) (stop : Machin
       subst (λ r. R r n) (left_fold n) (subst (λ k. R (fold (applied cod k) left meant) k) number all) in
       record { orderly = record { family = here.0.family; once = here.0.once }; rests = here.1; now = here.2 }
 
+  -- so its request can be carried out
+  pub acted_is : (m3 : Machine) → Does m2 (λ run. fold (applied (by_code m2.code) n) run meant) m3
+      → Stands m3 acted
+  acted_is m3 becomes =
+      subst (λ code. Stands m3 (fold (applied (by_code code) n) quiet meant)) ran.code_is
+      (becomes quiet quiet_is)
+
+  pub acted_orderly : (m3 : Machine) → Stands m3 acted → (next : ℕ) × IsNumbered next m3
+  acted_orderly m3 stands =
+      (after.next_shred, record { run = acted; stands = stands; so = after_acts.orderly })
+
+  pub acted_idle : (m3 : Machine) → Stands m3 acted → HasRun m3 (IsIdle n)
+  acted_idle m3 stands = record { run = acted; stands = stands; so = after_acts.rests }
+
+  acted_written : acted.text ≡ written meant
+  acted_written = (acts_text cod n meant quiet).text_is
+
   -- the slice of the run, by what the machine did
   abbrev wake : Wake
   wake = record { time = after.now; shred = n; trap = trap_of (stop_meant stop) }
@@ -357,8 +428,8 @@ module _ (old m2 : Machine) (n place : ℕ) (standing : Standing) (stop : Machin
   abbrev noted_run : Run Stopped
   noted_run = noted acted wake
 
-  abbrev whole : Run Stopped
-  whole = run_slice cod (seen old) (live (seen old) n)
+  abbrev pub whole : Run Stopped
+  whole = run_slice cod now (live run n)
 
   slice_is : whole ≡ t (carried_out_where noted_run (live noted_run n) (stop_meant stop))
   slice_is =
@@ -367,7 +438,7 @@ module _ (old m2 : Machine) (n place : ℕ) (standing : Standing) (stop : Machin
       (record { time = after.now; shred = k; trap = trap_of (stop_meant stop) }) in
       let C : Run Stopped → ℕ → Run Stopped =
       λ r k. carried_out_where (A r k) (live (A r k) k) (stop_meant stop) in
-      ap (run_slice cod (seen old)) found ∙ same.after ∙ ap (λ k. C left k) number
+      ap (run_slice cod now) scene.found ∙ same.after ∙ ap (λ k. C left k) number
       ∙ ap (λ r. carried_out_where (noted r wake) (live (noted r wake) n) (stop_meant stop)) (left_fold n)
       ∙ ap (λ r. carried_out_where r (live r n) (stop_meant stop)) (told-noted cod [] [] [] (0 + b) acted wake)
       ∙ told-where cod [] [] [] (0 + b) noted_run (live noted_run n) (stop_meant stop)
@@ -379,7 +450,7 @@ module _ (old m2 : Machine) (n place : ℕ) (standing : Standing) (stop : Machin
   slice_tells : whole ≡ told [] noted_run.text noted_run.wakes ((0 + b) + noted_run.begun) rest
   slice_tells =
       slice_is ∙ ap (λ r. t (carried_out_where r (live r n) (stop_meant stop)))
-      (as_all_told noted_run ((acts_text cod n meant (seen m2)).samples_are))
+      (as_all_told noted_run ((acts_text cod n meant quiet).samples_are))
       ∙ ap t (told-where cod [] noted_run.text noted_run.wakes noted_run.begun (silent acted)
       (live (silent acted) n) (stop_meant stop))
       ∙ told_more [] [] [] noted_run.text [] noted_run.wakes (0 + b) noted_run.begun rest
@@ -389,13 +460,14 @@ module _ (old m2 : Machine) (n place : ℕ) (standing : Standing) (stop : Machin
   counts_all count is lt =
       let begun : whole.begun ≡ ((0 + b) + noted_run.begun) + rest.begun =
       ap (λ (r : Run Stopped). r.begun) slice_tells in
-      let none : noted_run.begun ≡ 0 = (acts_text cod n meant (seen m2)).begun_are in
-      let no_more : rest.begun ≡ 0 = where_begun (silent acted) (live (silent acted) n) (stop_meant stop) in
+      let none : noted_run.begun ≡ 0 = (acts_text cod n meant quiet).begun_are in
+      let no_more : rest.begun ≡ 0 =
+      (where_tells (silent acted) (live (silent acted) n) (stop_meant stop)).begun_are in
       let all : whole.begun ≡ begun_of old.code standing before =
       omega (arith, begun, none, no_more) ∙ sym (same_begun old.code standing before) in
-      is ∙ ran.ran_is before (record { is = refl }) ∙ ap (counted old.world.ran) (sym all)
+      is ∙ ran.ran_is before scene.stands.store ∙ ap (counted old.world.ran) (sym all)
 
-  bytes_are : (names : List (List ℕ)) → text_bytes names whole.text ≡ text_bytes names acted.text
+  bytes_are : (names : List (List ℕ)) → text_bytes names whole.text ≡ text_bytes names (written meant)
       ++ (trap_lines names wake wake.trap ++ text_bytes names rest.text)
   bytes_are names =
       ap (λ (r : Run Stopped). text_bytes names r.text) slice_tells ∙ text-append names noted_run.text rest.text
@@ -403,13 +475,15 @@ module _ (old m2 : Machine) (n place : ℕ) (standing : Standing) (stop : Machin
       ∙ ap (λ t. text_bytes names acted.text ++ t) (trap_bytes names wake wake.trap refl))
       ∙ append_assoc (text_bytes names acted.text) (trap_lines names wake wake.trap)
       (text_bytes names rest.text)
+      ∙ ap (λ ps. text_bytes names ps ++ (trap_lines names wake wake.trap ++ text_bytes names rest.text))
+      acted_written
 
   wakes_are : whole.wakes ≡ wake ∷ rest.wakes
   wakes_are = ap (λ (r : Run Stopped). r.wakes) slice_tells
-      ∙ ap (λ ws. (ws ++ wake ∷ []) ++ rest.wakes) (acts_text cod n meant (seen m2)).wakes_are
+      ∙ ap (λ ws. (ws ++ wake ∷ []) ++ rest.wakes) (acts_text cod n meant quiet).wakes_are
 
   module _ (names : List (List ℕ)) (text text2 text3 : List ℕ) (wakes wakes2 : List MachineWake) where
-    pub front_acts : AddsFront (text_bytes names acted.text) text text2
+    pub front_acts : AddsFront (text_bytes names (written meant)) text text2
         → TellsFront names whole text text2 wakes wakes
     front_acts front = record {
       text_front = (
@@ -422,7 +496,7 @@ module _ (old m2 : Machine) (n place : ℕ) (standing : Standing) (stop : Machin
       wakes_front = ([], whole.wakes, refl, sym (append-nil (wakes_meant wakes)));
     }
 
-    pub front_note : (w : Wake) → w ≡ wake → text2 ≡ text ++ text_bytes names acted.text
+    pub front_note : (w : Wake) → w ≡ wake → text2 ≡ text ++ text_bytes names (written meant)
         → AddsFront (trap_lines names w w.trap) text2 text3
         → AddsFront (w ∷ []) (wakes_meant wakes) (wakes_meant wakes2)
         → TellsFront names whole text text3 wakes wakes2
@@ -431,7 +505,7 @@ module _ (old m2 : Machine) (n place : ℕ) (standing : Standing) (stop : Machin
         subst (λ (v : Wake). AddsFront (trap_lines names v v.trap) text2 text3) is front in
         let g : AddsFront (wake ∷ []) (wakes_meant wakes) (wakes_meant wakes2) =
         subst (λ (v : Wake). AddsFront (v ∷ []) (wakes_meant wakes) (wakes_meant wakes2)) is wakes_front in
-        let mine = text_bytes names acted.text in
+        let mine = text_bytes names (written meant) in
         record {
           text_front = (
             mine ++ f.0,
@@ -450,28 +524,30 @@ module _ (old m2 : Machine) (n place : ℕ) (standing : Standing) (stop : Machin
           );
         }
 
-    pub front_all : (w : Wake) → w ≡ wake → text2 ≡ text ++ text_bytes names acted.text → text3 ≡ text2
+    pub front_all : (w : Wake) → w ≡ wake → text2 ≡ text ++ text_bytes names (written meant) → text3 ≡ text2
         ++ trap_lines names w w.trap → wakes_meant wakes2 ≡ wakes_meant wakes ++ w ∷ []
         → TellsFront names whole text text3 wakes wakes2
     front_all w is more trapped noted_it =
         front_note w is more (all_added (trap_lines names w w.trap) text2 text3 trapped)
         (all_added (w ∷ []) (wakes_meant wakes) (wakes_meant wakes2) noted_it)
 
-    pub becomes_all : (m3 m4 : Machine) (w : Wake) → w ≡ wake → seen m3 ≡ silent acted
-        → seen m4 ≡ carried_out_where (seen m3) (live (seen m3) n) (stop_meant stop)
-        → text2 ≡ text ++ text_bytes names acted.text → text3 ≡ text2 ++ trap_lines names w w.trap
+    pub becomes_all : (m4 : Machine) (w : Wake) → w ≡ wake
+        → Stands m4 (carried_out_where acted (live acted n) (stop_meant stop))
+        → text2 ≡ text ++ text_bytes names (written meant) → text3 ≡ text2 ++ trap_lines names w w.trap
         → wakes_meant wakes2 ≡ wakes_meant wakes ++ w ∷ [] → Becomes names whole m4 text text3 wakes wakes2
-    becomes_all m3 m4 w is quiet done more trapped noted_it =
-        let rest_is : rest ≡ seen m4 = ap (λ r. carried_out_where r (live r n) (stop_meant stop)) (sym quiet)
-        ∙ sym done in
-        let no_text : rest.text ≡ [] = ap (λ (r : Run Stopped). r.text) rest_is in
-        let no_wakes : rest.wakes ≡ [] = ap (λ (r : Run Stopped). r.wakes) rest_is in
+    becomes_all m4 w is done more trapped noted_it =
+        let tells = where_tells (silent acted) (live (silent acted) n) (stop_meant stop) in
+        let no_text : rest.text ≡ [] = tells.text_is in
+        let no_wakes : rest.wakes ≡ [] = tells.wakes_are in
+        let told_rest = told_alike m4 (carried_out_where acted (live acted n) (stop_meant stop))
+        (told [] noted_run.text noted_run.wakes ((0 + b) + noted_run.begun) rest)
+        (where_quiet acted (live acted n) (stop_meant stop)) done in
         record {
-          machine_is = sym (ap silent rest_is) ∙ sym (ap silent slice_tells);
+          stands = subst (Stands m4) (sym slice_tells) told_rest;
           text_is = trapped ∙ ap (λ t. t ++ trap_lines names w w.trap) more
-              ∙ append_assoc text (text_bytes names acted.text) (trap_lines names w w.trap)
-              ∙ ap (λ (v : Wake). text ++ (text_bytes names acted.text ++ trap_lines names v v.trap)) is
-              ∙ ap (λ t. text ++ (text_bytes names acted.text ++ t))
+              ∙ append_assoc text (text_bytes names (written meant)) (trap_lines names w w.trap)
+              ∙ ap (λ (v : Wake). text ++ (text_bytes names (written meant) ++ trap_lines names v v.trap)) is
+              ∙ ap (λ t. text ++ (text_bytes names (written meant) ++ t))
               (sym (append-nil (trap_lines names wake wake.trap))
               ∙ ap (λ ps. trap_lines names wake wake.trap ++ text_bytes names ps) (sym no_text))
               ∙ ap (λ t. text ++ t) (sym (bytes_are names));
@@ -481,10 +557,12 @@ module _ (old m2 : Machine) (n place : ℕ) (standing : Standing) (stop : Machin
         }
 
   -- the noted slice
-  pub wake_is : (m3 : Machine) (w : Wake) → w.time ≡ (seen m3).store.now → w.shred ≡ n
-      → w.trap ≡ trap_of (stop_meant stop) → seen m3 ≡ silent acted → w ≡ wake
-  wake_is m3 w time shred trap quiet =
-      ap (λ t. record w { time = t }) (time ∙ ap (λ (r : Run Stopped). r.store.now) quiet ∙ after_acts.now)
+  pub wake_is : (m3 : Machine) (w : Wake) → Stands m3 acted → w.time ≡ m3.world.time → w.shred ≡ n
+      → w.trap ≡ trap_of (stop_meant stop) → w ≡ wake
+  wake_is m3 w stands time shred trap =
+      let is : w.time ≡ after.now =
+      time ∙ sym (now_is m3.world acted.store stands.store) ∙ after_acts.now in
+      ap (λ t. record w { time = t }) is
       ∙ ap (λ k. record w { time = after.now; shred = k }) shred
       ∙ ap (λ t. record { time = after.now; shred = n; trap = t }) trap
 
@@ -510,20 +588,54 @@ placed code items place n below order lt is =
       | inr h ↦ absurd (omega (arith, lt, h.0))
     ]
 
+pub placed_at : (old : Machine) (n place : ℕ) (shreds : List Standing) (run : Run Stopped) → Stands old run
+    → CanRunSlice old.code n run → shreds ≡ old.shreds.items → place < length shreds
+    → IfSome (slice_get shreds place) (λ s. s.number ≡ n) → Placed old.code old.shreds.items place n
+placed_at old n place shreds run stands can same lt is =
+    placed old.code old.shreds.items place n run.store.next_shred
+    (order_stands old run run.store.next_shred stands can.can.sound.family.order)
+    (subst (λ items. place < length items) same lt)
+    (subst (λ items. IfSome (slice_get items place) (λ s. s.number ≡ n)) same is)
+
+-- so it is with a shred that a search for its number found
+pub scene_at : (old m2 : Machine) (n place : ℕ) (stop : MachineStop) (acts : List Recorded)
+    (shreds : List Standing) (run : Run Stopped) → Stands old run → CanRunSlice old.code n run
+    → shreds ≡ old.shreds.items → place < length shreds
+    → IfSome (slice_get shreds place) (λ s. s.number ≡ n)
+    → IfSome (slice_get old.shreds.items place) (λ shred. Ran stop shred place old m2 acts)
+    → Scene old m2 n place stop acts run
+scene_at old m2 n place stop acts shreds run stands can same lt is ran =
+    let at = placed_at old n place shreds run stands can same lt is in
+    record {
+      stands = stands;
+      can = can;
+      standing = at.one;
+      at = at.at;
+      found = ap (find (λ (s : Shred Stopped). nat_eq s.number n)) (sym stands.shreds) ∙ at.found;
+      ran = of_some (λ (shred : Standing). Ran stop shred place old m2 acts) _ at.one at.at ran;
+    }
+
+pub none_live : (old : Machine) (run : Run Stopped) (n : ℕ) → Stands old run
+    → has (numbers old.shreds.items) n ≡ false → live run n ≡ None
+none_live old run n stands none =
+    none_of (live run n)
+    (ap (λ ss. is_some (find (λ (s : Shred Stopped). nat_eq s.number n) ss)) (sym stands.shreds)
+    ∙ sym (has-live old.code n old.shreds.items) ∙ none)
+
 pub no_slice : (names : List (List ℕ)) (old : Machine) (n : ℕ) (text : List ℕ) (wakes : List MachineWake)
-    → live (seen old) n ≡ None
-    → Becomes names (run_slice (by_code old.code) (seen old) (live (seen old) n)) old text text wakes wakes
-no_slice names old n text wakes none =
-    subst (λ o. Becomes names (run_slice (by_code old.code) (seen old) o) old text text wakes wakes) (sym none)
+    (run : Run Stopped) → Stands old run → live run n ≡ None
+    → Becomes names (run_slice (by_code old.code) (silent run) (live run n)) old text text wakes wakes
+no_slice names old n text wakes run stands none =
+    subst (λ o. Becomes names (run_slice (by_code old.code) (silent run) o) old text text wakes wakes) (sym none)
     (record {
-      machine_is = refl;
+      stands = quiet_stands old run stands;
       text_is = sym (append-nil text);
       wakes_are =
           sym (append-nil (wakes_meant wakes));
     })
 
-pub no_begun : (old : Machine) (n count : ℕ) → live (seen old) n ≡ None
-    → Counts (run_slice (by_code old.code) (seen old) (live (seen old) n)).begun count count
-no_begun old n count none =
-    subst (λ o. Counts (run_slice (by_code old.code) (seen old) o).begun count count) (sym none)
+pub no_begun : (old : Machine) (n count : ℕ) (run : Run Stopped) → live run n ≡ None
+    → Counts (run_slice (by_code old.code) (silent run) (live run n)).begun count count
+no_begun old n count run none =
+    subst (λ o. Counts (run_slice (by_code old.code) (silent run) o).begun count count) (sym none)
     (none_counted count)

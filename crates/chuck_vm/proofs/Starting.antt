@@ -8,14 +8,14 @@ use Rattle.ck_store.specs.Store.{first_store}
 use Rattle.ck_meaning.specs.Replay.{Stopped, beginning, by_code, run_code}
 use Rattle.ck_run.specs.Run.{Shred, Due, first_shreds, first_due_of}
 use Rattle.ck_run.specs.Counts.{times}
-use Rattle.ck_run.specs.Told.{silent}
 use Rattle.ck_run.proofs.Lists.{hit-other, times-append}
 use Rattle.shred_state.specs.Frames.{Standing}
 use Rattle.shreduler.specs.Queue as queue
-use Rattle.machine_world.specs.Worlds.{store_of}
+use Rattle.machine_world.specs.Worlds.{StandsFor}
 use Rattle.chuck_vm.specs.declared.machine.Machine.{Machine}
-use Rattle.chuck_vm.specs.Machine.{shred_of, shreds_of, due_of, wait_of, seen}
+use Rattle.chuck_vm.specs.Machine.{shred_of, shreds_of, due_of, wait_of, Stands}
 use Rattle.chuck_vm.specs.Telling.{CanBegin}
+use Rattle.chuck_vm.proofs.Dues.{same_due}
 use Rattle.chuck_vm.proofs.Lists.{map-push}
 use Rattle.chuck_vm.proofs.Queues.{due_pushed}
 
@@ -89,17 +89,16 @@ module _ (code : CodeParts) (number : ℕ) (left : List ℕ) (shreds : List Stan
   pub all_due : map due_of dues ≡ map first_due_of (first_shreds (by_code code) 1 code.mains)
   all_due = sym (append-nil (map due_of dues)) ∙ all.dues_are
 
--- the machine with them is the run that hasn't begun
+-- the machine with them stands for the run that hasn't begun
 pub all_started : (machine : Machine)
-    → store_of machine.world ≡ first_store (length machine.code.mains) machine.code.statics
+    → StandsFor machine.world (first_store (length machine.code.mains) machine.code.statics)
     → machine.waits ≡ []
     → shreds_of machine.code machine.shreds.items ≡ first_shreds (by_code machine.code) 1 machine.code.mains
     → map due_of machine.due ≡ map first_due_of (first_shreds (by_code machine.code) 1 machine.code.mains)
-    → seen machine ≡ silent (run_code machine.code 0)
-all_started machine world waits shreds due =
-    let code = machine.code in
-    let first = first_store (length code.mains) code.statics in
-    ap (λ w. record (seen machine) { store = w }) world
-    ∙ ap (λ ws. record (seen machine) { store = first; waits = map wait_of ws }) waits
-    ∙ ap (λ ss. record (seen machine) { store = first; waits = []; shreds = ss }) shreds
-    ∙ ap (λ ds. record (silent (run_code code 0)) { due = ds }) due
+    → Stands machine (run_code machine.code 0)
+all_started machine world waits shreds due = record {
+  store = world;
+  shreds = shreds;
+  due = same_due (map due_of machine.due) (run_code machine.code 0).due due;
+  waits = ap (map wait_of) waits;
+}

@@ -6,12 +6,13 @@ use Rattle.std.proofs.lemmas.List.Sums.{sum_by-append}
 use Rattle.std.specs.Prelude.{cond}
 use Rattle.ugen_kinds.specs.declared.output.Output.{Output}
 use Rattle.ck_code.specs.declared.code.CodeParts.{CodeParts}
-use Rattle.ck_meaning.specs.Replay.{Stopped, by_code, run_code}
-use Rattle.ck_run.specs.Run.{Run, Wake, output_of, after_sample, sampled, most_slices}
+use Rattle.ck_store.specs.Store.{Store}
+use Rattle.ck_meaning.specs.Replay.{by_code, run_code}
+use Rattle.ck_run.specs.Run.{Wake, output_of, after_sample, sampled, most_slices}
 use Rattle.ck_run.specs.Told.{silent}
 use Rattle.ck_run.proofs.Silences.{settled_samples}
 use Rattle.ck_run.proofs.Growing.{next_grows, run_goes_on, quiet}
-use Rattle.machine_world.specs.Worlds.{store_of}
+use Rattle.machine_world.specs.Worlds.{StandsFor as WorldStandsFor}
 use Rattle.chuck_vm.specs.declared.machine.Machine.{Machine}
 use Rattle.chuck_vm.specs.declared.tally.Tally.{Tally}
 use Rattle.chuck_vm.specs.declared.wake.Wake.{Wake as MachineWake}
@@ -93,8 +94,9 @@ module _ (code : CodeParts) (made count : ℕ) (old new : List MachineWake)
 -- the numbers of a machine that stands for a run
 pub tally_is : (made slices traps shreds objects ran : ℕ) (machine : Machine)
     → StandsFor made slices traps machine → shreds < 2 ^ 64 → objects < 2 ^ 64
-    → shreds ≡ pred (store_of machine.world).next_shred
-    → objects ≡ length (store_of machine.world).objects → ran ≡ machine.world.ran
+    → ((store : Store) → WorldStandsFor machine.world store → shreds ≡ pred store.next_shred)
+    → ((store : Store) → WorldStandsFor machine.world store → objects ≡ length store.objects)
+    → ran ≡ machine.world.ran
     → record {
       samples = made;
       wakes = slices;
@@ -114,14 +116,11 @@ tally_is made slices traps shreds objects ran machine stands few few2 shreds_are
       made = e;
       instructions = f;
     } in
-    let store : store_of machine.world ≡ run.store =
-    ap (λ (r : Run Stopped). r.store) stands.machine_is in
+    let world = stands.stands.store in
     let samples : made ≡ as_counted (length run.samples) =
     omega (arith, samples_made machine.code made, stands.few) in
-    let next : shreds ≡ pred run.store.next_shred =
-    shreds_are ∙ ap (λ s. pred s.next_shred) store in
-    let all : objects ≡ length run.store.objects =
-    objects_are ∙ ap (λ s. length s.objects) store in
+    let next : shreds ≡ pred run.store.next_shred = shreds_are run.store world in
+    let all : objects ≡ length run.store.objects = objects_are run.store world in
     let shreds_counted : shreds ≡ as_counted (pred run.store.next_shred) = omega (arith, few, next) in
     let objects_counted : objects ≡ as_counted (length run.store.objects) =
     omega (arith, few2, all) in

@@ -1,5 +1,6 @@
 -- What a machine of many shreds stands for.
-use Rattle.std.specs.Prelude.{ℕ, Bool, not, ◌||◌, ◌&&◌, List, [], map, nat_eq, nat_le}
+use Rattle.std.specs.Prelude.{◌≡◌, ℕ, ℤ, Bool, not, ◌||◌, ◌&&◌, List, map, filter, nat_eq, nat_le}
+use Rattle.std.specs.Ordering.{int_eq}
 use Rattle.ck_code.specs.declared.code.CodeParts.{CodeParts}
 use Rattle.ck_code.specs.Machine.{stopped_at}
 use Rattle.ck_meaning.specs.Replay.{Stopped}
@@ -8,7 +9,7 @@ use Rattle.shred_state.specs.Frames.{Standing}
 use Rattle.shreduler.specs.Queue as queue
 use Rattle.event_queue.specs.Waiters as waiters
 use Rattle.machine_world.specs.Shown.{shown, frames_of}
-use Rattle.machine_world.specs.Worlds.{store_of}
+use Rattle.machine_world.specs.Worlds.{StandsFor}
 use Rattle.chuck_vm.specs.declared.machine.Machine.{Machine}
 
 -- how far a shred of the machine came
@@ -36,18 +37,39 @@ due_of due = record { time = due.time; shred = due.shred }
 abbrev pub wait_of : waiters.Wait → Wait
 wait_of wait = record { event = wait.event.serial; shred = wait.shred }
 
--- the machine as a run that has told nothing
-abbrev pub seen : Machine → Run Stopped
-seen machine = record {
-  store = store_of machine.world;
-  shreds = shreds_of machine.code machine.shreds.items;
-  due = map due_of machine.due;
-  waits = map wait_of machine.waits;
-  samples = [];
-  text = [];
-  wakes = [];
-  begun = 0;
-}
+-- the shreds that are due at a time, in their order
+abbrev pub shreds_due : (time : ℤ) → List Due → List ℕ
+shreds_due time due = map (λ due. due.shred) (filter (λ due. int_eq due.time time) due)
+
+-- at each time the same shreds are due, in the same order
+abbrev pub AreDueAlike : (one two : List Due) → Type 0
+AreDueAlike one two = (time : ℤ) → shreds_due time one ≡ shreds_due time two
+
+-- the machine stands for a run, whatever that one has told: its world stands for the run's store,
+-- the same shreds are live, at each time the same are due in the same order, and the same wait
+pub record Stands (machine : Machine) (run : Run Stopped) : Type 0 where
+  pub store : StandsFor machine.world run.store
+  pub shreds : shreds_of machine.code machine.shreds.items ≡ run.shreds
+  pub due : AreDueAlike (map due_of machine.due) run.due
+  pub waits : map wait_of machine.waits ≡ run.waits
+
+-- some run that the machine stands for is such
+pub record HasRun (machine : Machine) (such : Run Stopped → Type 0) : Type 0 where
+  pub run : Run Stopped
+  pub stands : Stands machine run
+  pub so : such run
+
+-- each run that the machine stands for is such
+abbrev pub OfEach : Machine → (such : Run Stopped → Type 0) → Type 0
+OfEach machine such = (run : Run Stopped) → Stands machine run → such run
+
+-- this is what is read of each run that the machine stands for
+abbrev pub Reads : {A : Type 0} → Machine → (of : Run Stopped → A) → A → Type 0
+Reads machine of a = OfEach machine (λ run. a ≡ of run)
+
+-- the new machine stands for each run that the old one stood for, once this is done to it
+abbrev pub Does : (old : Machine) → (step : Run Stopped → Run Stopped) → (new : Machine) → Type 0
+Does old step new = OfEach old (λ run. Stands new (step run))
 
 abbrev pub numbers : List Standing → List ℕ
 numbers shreds = map (λ shred. shred.number) shreds

@@ -7,10 +7,10 @@ use Rattle.ck_store.specs.Store.{Act, Sporked}
 use Rattle.ck_meaning.specs.Replay.{Stopped}
 use Rattle.ck_run.specs.Run.{Run, Block, Wait}
 use Rattle.ck_run.specs.Report.{text_bytes, sheet_samples}
-use Rattle.ck_run.specs.Told.{silent, AddsFront}
+use Rattle.ck_run.specs.Told.{AddsFront}
 use Rattle.chuck_vm.specs.declared.machine.Machine.{Machine}
 use Rattle.chuck_vm.specs.declared.wake.Wake.{Wake as MachineWake}
-use Rattle.chuck_vm.specs.Machine.{seen}
+use Rattle.chuck_vm.specs.Machine.{Stands}
 use Rattle.chuck_vm.specs.Wakes.{wakes_meant}
 
 -- a shred can begin so: the function is there, and takes so many arguments
@@ -27,10 +27,10 @@ IsNext code next _ = Unit {0}
 abbrev pub longest : (event : ℕ) → Run Stopped → Option Wait
 longest event run = find (λ wait. nat_eq wait.event event) run.waits
 
--- the machine has become this run, and has added what that one has told
+-- the machine stands for this run, and has added what that one has told
 pub record Becomes (names : List (List ℕ)) (run : Run Stopped) (machine : Machine)
     (text text2 : List ℕ) (wakes wakes2 : List MachineWake) : Type 0 where
-  pub machine_is : seen machine ≡ silent run
+  pub stands : Stands machine run
   pub text_is : text2 ≡ text ++ text_bytes names run.text
   pub wakes_are : wakes_meant wakes2 ≡ wakes_meant wakes ++ run.wakes
 

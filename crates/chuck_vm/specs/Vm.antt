@@ -5,9 +5,8 @@ use Rattle.ck_code.specs.declared.code.CodeParts.{CodeParts}
 use Rattle.ck_code.specs.Verified.{IsVerified}
 use Rattle.ck_meaning.specs.Replay.{run_code}
 use Rattle.ck_run.specs.Run.{Block, block_between}
-use Rattle.ck_run.specs.Told.{silent}
 use Rattle.chuck_vm.specs.declared.machine.Machine.{Machine}
-use Rattle.chuck_vm.specs.Machine.{seen}
+use Rattle.chuck_vm.specs.Machine.{Stands}
 use Rattle.chuck_vm.specs.Tallies.{as_counted, trap_count}
 
 -- its code, the names of its files, and how many samples it has made
@@ -19,7 +18,7 @@ pub record Sight : Type 0 where
 -- the machine stands for the run of its verified code after so many samples, and its counts for
 -- those of the run
 pub record StandsFor (made wakes traps : ℕ) (machine : Machine) : Type 0 where
-  pub machine_is : seen machine ≡ silent (run_code machine.code made)
+  pub stands : Stands machine (run_code machine.code made)
   pub wakes_is : wakes ≡ as_counted (length (run_code machine.code made).wakes)
   pub traps_is : traps ≡ as_counted (trap_count (run_code machine.code made).wakes)
   pub ran_is : machine.world.ran ≡ as_counted (run_code machine.code made).begun

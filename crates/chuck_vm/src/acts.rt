@@ -1,16 +1,14 @@
 //! What the acts and the request of a slice do to a machine.
-ghost use Rattle.std.specs.Prelude.{◌≡◌, ℕ, ◌+◌, ◌++◌, List, [], find, filter, fold, nat_eq};
-ghost use Rattle.std.specs.Prelude.{Some, is_some, length, IfOk, OnOk, OnErr};
+ghost use Rattle.std.specs.Prelude.{◌≡◌, ℕ, ◌++◌, ◌∷◌, List, [], filter, fold, nat_eq};
+ghost use Rattle.std.specs.Prelude.{Some, is_some, IfOk, OnOk, OnErr};
 ghost use Rattle.ck_values.specs.Datum.{all_meant};
-ghost use Rattle.ck_store.specs.Store.{Sporked};
 ghost use Rattle.ck_meaning.specs.Replay.{by_code, beginning};
 ghost use Rattle.ck_run.specs.Report.{text_bytes};
 ghost use Rattle.ck_run.specs.Run.{live, live_at, with_child, woken, ended_where};
-ghost use Rattle.ck_run.specs.Run.{applied, carried_out_where};
-ghost use Rattle.ck_run.specs.Sound.{IsOrderly, times_due, times_waiting};
-ghost use Rattle.ck_run.specs.Told.{silent};
+ghost use Rattle.ck_run.specs.Run.{applied, carried_out_where, written};
 ghost use Rattle.machine_world.specs.Acts.{act_meant};
-ghost use Rattle.chuck_vm.specs.Machine.{seen};
+ghost use Rattle.chuck_vm.specs.Machine.{Does, HasRun, Reads};
+ghost use Rattle.chuck_vm.specs.Running.{IsIdle, IsNumbered};
 ghost use Rattle.chuck_vm.specs.Telling.{IsNext, CanBegin, longest};
 ghost use Rattle.chuck_vm.specs.Wakes.{stop_meant};
 
@@ -30,11 +28,11 @@ impl Machine {
         fun: u32,
         args: Vec<Value>,
     ) -> Result<(), Memory>
-        requires orderly { IsOrderly number (seen self.old) }
+        requires orderly { IsNumbered number self.old }
         requires begins { CanBegin self.old.code fun (all_meant args.items) }
         ensures child { let p = beginning self.old.code fun (all_meant args.items) in
-            OnOk result (seen self.new
-            ≡ with_child (seen self.old) parent number p (live (seen self.old) parent)) }
+            OnOk result (Does self.old
+            (λ run. with_child run parent number p (live run parent)) self.new) }
         ensures code { self.new.code ≡ self.old.code }
         ensures ran { self.new.world.ran ≡ self.old.world.ran }
     {
@@ -49,11 +47,11 @@ impl Machine {
 
     /// Makes the longest waiter of an event due; false where none waits.
     fn wake_one(&mut self, event: Ref) -> Result<bool, Memory>
-        requires orderly { (next : ℕ) × IsOrderly next (seen self.old) }
-        ensures whether { IfOk result (λ woke.
-            woke ≡ is_some (longest event.serial (seen self.old))) }
+        requires orderly { (next : ℕ) × IsNumbered next self.old }
+        ensures whether { IfOk result
+            (Reads self.old (λ run. is_some (longest event.serial run))) }
         ensures woken { OnOk result
-            (seen self.new ≡ woken (seen self.old) (longest event.serial (seen self.old))) }
+            (Does self.old (λ run. woken run (longest event.serial run)) self.new) }
         ensures code { self.new.code ≡ self.old.code }
         ensures ran { self.new.world.ran ≡ self.old.world.ran }
     {
@@ -66,11 +64,10 @@ impl Machine {
 
     /// Makes all waiters of an event due, in the order of their waiting.
     fn wake_all(&mut self, event: Ref) -> Result<(), Memory>
-        requires orderly { (next : ℕ) × IsOrderly next (seen self.old) }
-        ensures woken { let waiters = filter (λ wait. nat_eq wait.event event.serial)
-            (seen self.old).waits in
-            OnOk result (seen self.new
-            ≡ fold (λ now wait. woken now (Some wait)) (seen self.old) waiters) }
+        requires orderly { (next : ℕ) × IsNumbered next self.old }
+        ensures woken { OnOk result (Does self.old
+            (λ run. fold (λ now wait. woken now (Some wait)) run
+            (filter (λ wait. nat_eq wait.event event.serial) run.waits)) self.new) }
         ensures code { self.new.code ≡ self.old.code }
         ensures ran { self.new.world.ran ≡ self.old.world.ran }
     {
@@ -80,9 +77,8 @@ impl Machine {
 
     /// Ends the shred that a number of the language means, where there is one.
     fn remove(&mut self, number: i64)
-        requires orderly { (next : ℕ) × IsOrderly next (seen self.old) }
-        ensures ended { seen self.new
-            ≡ ended_where (seen self.old) (live_at (seen self.old) number) }
+        requires orderly { (next : ℕ) × IsNumbered next self.old }
+        ensures ended { Does self.old (λ run. ended_where run (live_at run number)) self.new }
         ensures code { self.new.code ≡ self.old.code }
         ensures ran { self.new.world.ran ≡ self.old.world.ran }
     {
@@ -103,14 +99,12 @@ impl Machine {
         act: Act,
         text: &mut Vec<u8>,
     ) -> Result<(), Memory>
-        requires orderly { (next : ℕ) × IsOrderly next (seen self.old)
+        requires orderly { (next : ℕ) × IsNumbered next self.old
             × IsNext self.old.code next (act_meant act) }
-        ensures becomes { OnOk result (seen self.new
-            ≡ silent (applied (by_code self.old.code) shred (seen self.old) (act_meant act))) }
-        ensures text { let after = applied (by_code self.old.code) shred (seen self.old)
-            (act_meant act) in
-            OnOk result ((names : List (List ℕ)) →
-            text.new.items ≡ text.old.items ++ text_bytes names after.text) }
+        ensures becomes { OnOk result (Does self.old
+            (λ run. applied (by_code self.old.code) shred run (act_meant act)) self.new) }
+        ensures text { OnOk result ((names : List (List ℕ)) → text.new.items
+            ≡ text.old.items ++ text_bytes names (written (act_meant act ∷ []))) }
         ensures same { OnErr result (text.new.items ≡ text.old.items) }
         ensures code { self.new.code ≡ self.old.code }
         ensures ran { self.new.world.ran ≡ self.old.world.ran }
@@ -132,11 +126,10 @@ impl Machine {
 
     /// Carries out the request with which a shred stopped, where that one is live.
     pub(crate) fn carry_out(&mut self, shred: u64, stop: Stop) -> Result<(), Memory>
-        requires orderly { (next : ℕ) × IsOrderly next (seen self.old) }
-        requires idle { times_due shred (seen self.old) + times_waiting shred (seen self.old) ≡ 0 }
-        ensures becomes { let now = seen self.old in
-            OnOk result (seen self.new
-            ≡ carried_out_where now (live now shred) (stop_meant stop)) }
+        requires orderly { (next : ℕ) × IsNumbered next self.old }
+        requires idle { HasRun self.old (IsIdle shred) }
+        ensures becomes { OnOk result (Does self.old
+            (λ run. carried_out_where run (live run shred) (stop_meant stop)) self.new) }
         ensures code { self.new.code ≡ self.old.code }
         ensures ran { self.new.world.ran ≡ self.old.world.ran }
     {

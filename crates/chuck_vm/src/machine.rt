@@ -1,13 +1,13 @@
 //! The shreds of a machine: who is live, and who ends with whom.
-ghost use Rattle.std.specs.Prelude.{◌≡◌, ℕ, [], ◌<◌, ◌≤◌, All, OnOk, length, map, take, slice_get};
+ghost use Rattle.std.specs.Prelude.{◌≡◌, ℕ, [], ◌<◌, OnOk, length, map, take, slice_get};
 ghost use Rattle.std.specs.Prelude.{true, false, is_some, IfSome, IfNone, IfOk};
 ghost use Rattle.std.specs.List.Sorted.{IsNonDecreasingBy};
 ghost use Rattle.ck_run.specs.Run.{has, live, ended, first_shreds, first_due_of};
-ghost use Rattle.ck_run.specs.Sound.{IsOrderly};
-ghost use Rattle.ck_run.specs.Told.{silent};
 ghost use Rattle.ck_code.specs.Verified.{IsVerified};
 ghost use Rattle.ck_meaning.specs.Replay.{by_code, run_code};
-ghost use Rattle.chuck_vm.specs.Machine.{seen, numbers, ends_behind, shreds_of, due_of};
+ghost use Rattle.chuck_vm.specs.Machine.{numbers, ends_behind, shreds_of, due_of};
+ghost use Rattle.chuck_vm.specs.Machine.{Does, Reads, Stands};
+ghost use Rattle.chuck_vm.specs.Running.{IsNumbered};
 
 use ck_code::Code;
 use event_queue::Events;
@@ -86,7 +86,7 @@ fn add_mains(
 impl Machine {
     /// The machine before its first slice: the shreds of the files are due at once, in their order.
     pub(crate) fn first(alloc: Global, code: Code) -> Result<Machine, Memory>
-        ensures first { IfOk result (λ machine. seen machine ≡ silent (run_code code 0)) }
+        ensures first { IfOk result (λ machine. Stands machine (run_code code 0)) }
         ensures code { IfOk result (λ machine. machine.code ≡ code) }
         ensures verified { IfOk result (λ machine. IsVerified machine.code) }
         ensures ran { IfOk result (λ machine. machine.world.ran ≡ 0) }
@@ -106,8 +106,8 @@ impl Machine {
 
     /// Whether a shred is live.
     pub(crate) fn is_live(&self, number: u64) -> bool
-        requires orderly { (next : ℕ) × IsOrderly next (seen self.now) }
-        ensures { result ≡ is_some (live (seen self.now) number) }
+        requires orderly { (next : ℕ) × IsNumbered next self.now }
+        ensures { Reads self.now (λ run. is_some (live run number)) result }
     {
         position_of(self.shreds.as_slice(), number).is_some()
     }
@@ -115,8 +115,8 @@ impl Machine {
     /// A shred ends, and its children with it, and theirs; what they made is connected no longer. It
     /// takes no memory.
     pub(crate) fn end(&mut self, number: u64)
-        requires orderly { (next : ℕ) × IsOrderly next (seen self.old) }
-        ensures ended { seen self.new ≡ ended (seen self.old) number }
+        requires orderly { (next : ℕ) × IsNumbered next self.old }
+        ensures ended { Does self.old (λ run. ended run number) self.new }
         ensures code { self.new.code ≡ self.old.code }
         ensures ran { self.new.world.ran ≡ self.old.world.ran }
     {

@@ -1,20 +1,19 @@
 //! The slices of a machine, one after another, and the samples.
-ghost use Rattle.std.specs.Prelude.{◌≡◌, ℕ, ◌+◌, ◌++◌, ◌<◌, ◌≤◌, ℤ, ◌<ℤ◌, List, [], length};
-ghost use Rattle.std.specs.Prelude.{slice_get, fold, None, IfOk, IfSome, OnOk, OnErr};
+ghost use Rattle.std.specs.Prelude.{◌≡◌, ℕ, ◌+◌, ◌++◌, ◌<◌, ◌≤◌, List, [], length};
+ghost use Rattle.std.specs.Prelude.{slice_get, fold, IfOk, IfSome, OnOk, OnErr};
 ghost use Rattle.std.specs.Option.{option_map};
 ghost use Rattle.ck_base.specs.declared.limits.TheConstants.{MAX_FILES, MAX_SAMPLES};
 ghost use Rattle.ck_code.specs.Verified.{IsVerified};
 ghost use Rattle.ck_meaning.specs.Replay.{by_code, run_code};
 ghost use Rattle.ck_run.specs.Report.{text_bytes};
-ghost use Rattle.ck_run.specs.Run.{live, run_slice, first_due, applied, settled, trap_of};
-ghost use Rattle.ck_run.specs.Sound.{IsOrderly, AreNumbered, AllSporks};
-ghost use Rattle.ck_run.specs.Sound.{measure, times_due, times_waiting};
-ghost use Rattle.ck_run.specs.Told.{silent, AddsFront};
-ghost use Rattle.run_laws.specs.FitRuns.{turns_at};
+ghost use Rattle.ck_run.specs.Run.{applied, trap_of, written};
+ghost use Rattle.ck_run.specs.Sound.{AreNumbered, AllSporks};
+ghost use Rattle.ck_run.specs.Told.{AddsFront};
 ghost use Rattle.machine_world.specs.Acts.{all_acts_meant};
 ghost use Rattle.stack_machine.specs.Fitting.{AreSuited};
-ghost use Rattle.chuck_vm.specs.Machine.{seen};
-ghost use Rattle.chuck_vm.specs.Running.{CanRun, Ran};
+ghost use Rattle.chuck_vm.specs.Machine.{Does, HasRun, Stands};
+ghost use Rattle.chuck_vm.specs.Running.{CanRun, CanRunSlice, IsNumbered, IsQuietBefore};
+ghost use Rattle.chuck_vm.specs.Running.{OfSettled, OfSlice, Ran};
 ghost use Rattle.chuck_vm.specs.Telling.{CanBegin, Becomes, TellsFront, Adds, AddsFronts};
 ghost use Rattle.chuck_vm.specs.Tallies.{Counts, as_counted};
 ghost use Rattle.chuck_vm.specs.Vm.{block_of};
@@ -63,19 +62,15 @@ impl Machine {
         acts: Acts,
         text: &mut Vec<u8>,
     ) -> Result<(), Memory>
-        requires orderly { (next to : ℕ) × (1 ≤ next) × IsOrderly next (seen self.old)
+        requires orderly { (next to : ℕ) × (1 ≤ next) × IsNumbered next self.old
             × AreNumbered next to (all_acts_meant acts) }
         requires begin { AllSporks (CanBegin self.old.code) (all_acts_meant acts) }
         ensures becomes { let by = applied (by_code self.old.code) shred in
-            OnOk result (seen self.new ≡ silent (fold by (seen self.old) (all_acts_meant acts))) }
-        ensures text { let by = applied (by_code self.old.code) shred in
-            let after = fold by (seen self.old) (all_acts_meant acts) in
-            OnOk result ((names : List (List ℕ)) →
-            text.new.items ≡ text.old.items ++ text_bytes names after.text) }
-        ensures front { let by = applied (by_code self.old.code) shred in
-            let after = fold by (seen self.old) (all_acts_meant acts) in
-            OnErr result ((names : List (List ℕ)) →
-            AddsFront (text_bytes names after.text) text.old.items text.new.items) }
+            OnOk result (Does self.old (λ run. fold by run (all_acts_meant acts)) self.new) }
+        ensures text { OnOk result ((names : List (List ℕ)) → text.new.items
+            ≡ text.old.items ++ text_bytes names (written (all_acts_meant acts))) }
+        ensures front { OnErr result ((names : List (List ℕ)) → AddsFront
+            (text_bytes names (written (all_acts_meant acts))) text.old.items text.new.items) }
         ensures code { self.new.code ≡ self.old.code }
         ensures ran { self.new.world.ran ≡ self.old.world.ran }
     {
@@ -98,21 +93,16 @@ impl Machine {
         text: &mut Vec<u8>,
         wakes: &mut Vec<Wake>,
     ) -> Result<(), Memory>
-        requires can_run { CanRun self.old.code (seen self.old) }
-        requires idle { times_due number (seen self.old) + times_waiting number (seen self.old)
-            ≡ 0 }
-        ensures becomes { let now = seen self.old in
-            OnOk result (Becomes (names_of names.now)
-            (run_slice (by_code self.old.code) now (live now number))
-            self.new text.old.items text.new.items wakes.old.items wakes.new.items) }
-        ensures front { let now = seen self.old in
-            OnErr result (TellsFront (names_of names.now)
-            (run_slice (by_code self.old.code) now (live now number))
-            text.old.items text.new.items wakes.old.items wakes.new.items) }
+        requires can_run { HasRun self.old (CanRunSlice self.old.code number) }
+        ensures becomes { OnOk result (OfSlice self.old number (λ run.
+            Becomes (names_of names.now) run self.new
+            text.old.items text.new.items wakes.old.items wakes.new.items)) }
+        ensures front { OnErr result (OfSlice self.old number (λ run.
+            TellsFront (names_of names.now) run
+            text.old.items text.new.items wakes.old.items wakes.new.items)) }
         ensures code { self.new.code ≡ self.old.code }
-        ensures counts { let now = seen self.old in
-            OnOk result (Counts (run_slice (by_code self.old.code) now (live now number)).begun
-            self.old.world.ran self.new.world.ran) }
+        ensures counts { OnOk result (OfSlice self.old number (λ run.
+            Counts run.begun self.old.world.ran self.new.world.ran)) }
     {
         let Some(place) = position_of(self.shreds.as_slice(), number) else {
             return Ok(());
@@ -137,17 +127,16 @@ impl Machine {
         text: &mut Vec<u8>,
         wakes: &mut Vec<Wake>,
     ) -> Result<(), Memory>
-        requires can_run { CanRun self.old.code (seen self.old) }
-        ensures becomes { OnOk result ((bound : ℕ) → measure turns_at (seen self.old) ≤ bound →
-            Becomes (names_of names.now) (settled (by_code self.old.code) bound (seen self.old))
-            self.new text.old.items text.new.items wakes.old.items wakes.new.items) }
-        ensures front { OnErr result ((bound : ℕ) → measure turns_at (seen self.old) ≤ bound →
-            TellsFront (names_of names.now) (settled (by_code self.old.code) bound (seen self.old))
-            text.old.items text.new.items wakes.old.items wakes.new.items) }
+        requires can_run { HasRun self.old (CanRun self.old.code) }
+        ensures becomes { OnOk result (OfSettled self.old (λ run.
+            Becomes (names_of names.now) run self.new
+            text.old.items text.new.items wakes.old.items wakes.new.items)) }
+        ensures front { OnErr result (OfSettled self.old (λ run.
+            TellsFront (names_of names.now) run
+            text.old.items text.new.items wakes.old.items wakes.new.items)) }
         ensures code { self.new.code ≡ self.old.code }
-        ensures counts { OnOk result ((bound : ℕ) → measure turns_at (seen self.old) ≤ bound →
-            Counts (settled (by_code self.old.code) bound (seen self.old)).begun
-            self.old.world.ran self.new.world.ran) }
+        ensures counts { OnOk result (OfSettled self.old (λ run.
+            Counts run.begun self.old.world.ran self.new.world.ran)) }
     {
         'due: while let Some(number) = self.due.take_due(self.world.now()) {
             self.run_slice(alloc, names, number, text, wakes)?;
@@ -157,7 +146,7 @@ impl Machine {
 
     /// A time before which nothing is due.
     fn next_due(&self) -> i64
-        ensures { (now : ℤ) → now <ℤ result → first_due now (seen self.now).due ≡ None }
+        ensures { IsQuietBefore result self.now }
     {
         self.due.next_time().unwrap_or(i64::MAX)
     }
@@ -172,20 +161,18 @@ impl Machine {
         text: &mut Vec<u8>,
         wakes: &mut Vec<Wake>,
     ) -> Result<i64, Memory>
-        requires can_run { CanRun self.old.code (seen self.old) }
-        requires none_before { (now : ℤ) → now <ℤ next → first_due now (seen self.old).due ≡ None }
-        ensures becomes { OnOk result ((bound : ℕ) → measure turns_at (seen self.old) ≤ bound →
-            Becomes (names_of names.now) (settled (by_code self.old.code) bound (seen self.old))
-            self.new text.old.items text.new.items wakes.old.items wakes.new.items) }
-        ensures none_before { IfOk result (λ next.
-            (now : ℤ) → now <ℤ next → first_due now (seen self.new).due ≡ None) }
-        ensures front { OnErr result ((bound : ℕ) → measure turns_at (seen self.old) ≤ bound →
-            TellsFront (names_of names.now) (settled (by_code self.old.code) bound (seen self.old))
-            text.old.items text.new.items wakes.old.items wakes.new.items) }
+        requires can_run { HasRun self.old (CanRun self.old.code) }
+        requires none_before { IsQuietBefore next self.old }
+        ensures becomes { OnOk result (OfSettled self.old (λ run.
+            Becomes (names_of names.now) run self.new
+            text.old.items text.new.items wakes.old.items wakes.new.items)) }
+        ensures none_before { IfOk result (λ next. IsQuietBefore next self.new) }
+        ensures front { OnErr result (OfSettled self.old (λ run.
+            TellsFront (names_of names.now) run
+            text.old.items text.new.items wakes.old.items wakes.new.items)) }
         ensures code { self.new.code ≡ self.old.code }
-        ensures counts { OnOk result ((bound : ℕ) → measure turns_at (seen self.old) ≤ bound →
-            Counts (settled (by_code self.old.code) bound (seen self.old)).begun
-            self.old.world.ran self.new.world.ran) }
+        ensures counts { OnOk result (OfSettled self.old (λ run.
+            Counts run.begun self.old.world.ran self.new.world.ran)) }
     {
         if self.world.now() < next {
             return Ok(next);
@@ -208,10 +195,10 @@ impl Machine {
         requires verified { IsVerified self.old.code }
         requires files { length self.old.code.mains ≤ MAX_FILES }
         requires few { made + count ≤ MAX_SAMPLES }
-        requires stands { seen self.old ≡ silent (run_code self.old.code made) }
+        requires stands { Stands self.old (run_code self.old.code made) }
         requires ran { self.old.world.ran ≡ as_counted (run_code self.old.code made).begun }
         ensures stands { OnOk result
-            (seen self.new ≡ silent (run_code self.old.code (made + count))) }
+            (Stands self.new (run_code self.old.code (made + count))) }
         ensures adds { OnOk result (Adds (names_of names.now) (block_of self.old.code made count)
             samples.old.items samples.new.items text.old.items text.new.items
             wakes.old.items wakes.new.items) }

@@ -1,8 +1,7 @@
-use Rattle.std.proofs.Common.{◌≡◌, ℕ, ◌≤◌, ◌-◌, map, take, drop, vec_len}
+use Rattle.std.proofs.Common.{◌≡◌, ℕ, ◌≤◌, ◌-◌, vec_len}
 use Rattle.ck_run.specs.Family.{AreInOrder, IsFamily}
-use Rattle.machine_world.specs.Worlds.{store_of}
-use Rattle.chuck_vm.specs.Machine.{shreds_of, due_of, wait_of, seen}
-use Rattle.chuck_vm.proofs.Ends.{Ending}
+use Rattle.chuck_vm.specs.Machine.{shreds_of, OfEach}
+use Rattle.chuck_vm.proofs.Ends.{EndsBefore}
 use Rattle.chuck_vm.proofs.machine.Machine.end.Given as goal
 
 abbrev pub invariant-loop-kept : goal.invariant-loop-kept
@@ -10,12 +9,10 @@ invariant-loop-kept l = record {
   within : l.kept ≤ vec_len l.self.shreds;
   code : l.self.code ≡ l.fn.self.code;
   ran : l.self.world.ran ≡ l.fn.self.world.ran;
-  order : (next : ℕ) → IsFamily next (seen l.fn.self).shreds
+  order : (next : ℕ) → AreInOrder 1 next (shreds_of l.fn.self.code l.fn.self.shreds.items)
       → AreInOrder 1 next (shreds_of l.fn.self.code l.self.shreds.items);
-  ending : (next : ℕ) → IsFamily next (seen l.fn.self).shreds
-      → Ending l.number next (seen l.fn.self) (shreds_of l.fn.self.code (take l.kept l.self.shreds.items))
-      (shreds_of l.fn.self.code (drop l.kept l.self.shreds.items)) (map due_of l.self.due)
-      (map wait_of l.self.waits) (store_of l.self.world);
+  ending : OfEach l.fn.self (λ run. (next : ℕ) → IsFamily next run.shreds
+      → EndsBefore l.fn.self.code l.number next l.kept run l.self);
 }
 
 abbrev pub decreases-loop-kept : goal.decreases-loop-kept

@@ -10,5 +10,5 @@ returns-clause-first c =
       shreds = c.add_mains.new.shreds;
       due = c.add_mains.new.due;
       waits = c.new-2.result;
-    }) c.in_ok-world.ensures.store.is c.new-2.ensures c.in_ok-add_mains.ensures.shreds
+    }) c.in_ok-world.ensures.store c.new-2.ensures c.in_ok-add_mains.ensures.shreds
     c.in_ok-add_mains.ensures.due

@@ -1,15 +1,15 @@
 use mir.Syntax.{w64}
 use mir.Val.{SFits}
 use Rattle.std.proofs.lemmas.Int.{to_z-of_z}
-use Rattle.std.proofs.Common.{◌∷◌, [], ◌++◌, ap, sym, ◌∙◌, map, rules}
+use Rattle.std.proofs.Common.{◌∷◌, [], ◌++◌, ap, sym, refl, ◌∙◌, rules}
 use Rattle.ck_values.specs.Datum.{all_meant}
 use Rattle.ck_meaning.specs.Replay.{beginning}
-use Rattle.machine_world.proofs.Stands.{of_each}
-use Rattle.chuck_vm.specs.Machine.{seen, shred_of, shreds_of, due_of}
+use Rattle.chuck_vm.specs.Machine.{shred_of, shreds_of}
 use Rattle.chuck_vm.proofs.Lists.{map-push}
 use Rattle.chuck_vm.proofs.Beginning.{can_make, begun_shred}
-use Rattle.chuck_vm.proofs.Orders.{new_not_due, child_is}
-use Rattle.chuck_vm.proofs.Queues.{dues_times, due_pushed}
+use Rattle.chuck_vm.proofs.Orders.{new_not_due, child_stands}
+use Rattle.chuck_vm.proofs.Queues.{due_pushed}
+use Rattle.chuck_vm.proofs.Stands.{not_due, now_is}
 use Rattle.chuck_vm.proofs.machine.Machine.spork.Goals as goal
 
 pub new_shred-requires : goal.new_shred-requires
@@ -17,23 +17,26 @@ new_shred-requires c = can_make c.args.self.now.code c.args.fun c.args.args.item
 
 pub shredule-requires : goal.shredule-requires
 shredule-requires c =
-    let m = c.args.self.now in
-    record { not_due = dues_times c.args.number m.due ∙ new_not_due c.args.number (seen m) c.requires.orderly }
+    let orderly = c.requires.orderly in
+    record {
+      not_due = not_due c.args.self.now orderly.run c.args.number orderly.stands
+          (new_not_due c.args.number orderly.run orderly.so);
+    }
 
 pub returns-clause-child : goal.returns-clause-child
-returns-clause-child c =
+returns-clause-child c = λ run stands.
     let m = c.args.self.now in
     let args = c.args.args.items in
     let child = c.in_ok-child.child in
     let fits : SFits w64 c.now.result = search rules in
     let p = beginning m.code c.args.fun (all_meant args) in
-    child_is (seen m) (shreds_of m.code c.push.new.self.items) c.args.parent c.args.number
-    (map due_of c.shredule.new.self) p
+    child_stands m (record m { shreds = c.push.new.self; due = c.shredule.new.self }) run c.args.parent
+    c.args.number p refl refl
     (ap (shreds_of m.code) c.in_ok-push.ensures.items ∙ map-push (shred_of m.code) m.shreds.items child
     ∙ ap (λ s. shreds_of m.code m.shreds.items
     ++ s ∷ [])
     (begun_shred m.code child c.args.number c.args.parent c.args.fun args c.requires.begins
     c.in_ok-child.ensures.new c.in_ok-child.ensures.shown))
     (due_pushed m.due c.shredule.new.self _ _ c.args.number c.in_ok-shredule.ensures.due
-    (to_z-of_z w64 c.now.result fits ∙ of_each _ _ c.now.ensures.store))
-    (sym c.is_live.ensures ∙ c.if-not-is_live.false)
+    (to_z-of_z w64 c.now.result fits ∙ c.now.ensures.now ∙ sym (now_is m.world run.store stands.store)))
+    (sym (c.is_live.ensures run stands) ∙ c.if-not-is_live.false) stands

@@ -1,45 +1,68 @@
-use Rattle.std.proofs.Common.{◌≡◌, ◌<◌, ◌∙◌, sym, refl, ap, subst, length, is_some, true, false}
-use Rattle.ck_run.specs.Run.{Run}
-use Rattle.ck_run.specs.Sound.{IsOrderly}
-use Rattle.ck_meaning.specs.Replay.{Stopped}
+use Rattle.std.proofs.Common.{◌≡◌, ◌∙◌, sym, refl, ap, subst, length, is_some, true, false, arith}
+use Rattle.ck_run.specs.Run.{Wait, woken}
 use Rattle.ck_run.proofs.Orderly.{orderly_woken}
-use Rattle.chuck_vm.specs.Machine.{seen}
+use Rattle.chuck_vm.specs.Machine.{Stands}
 use Rattle.chuck_vm.specs.Telling.{longest}
-use Rattle.chuck_vm.proofs.Orders.{all_woken, woken_next, woken_none, woken_fewer}
+use Rattle.chuck_vm.proofs.Orders.{waits_apart, woken_next, woken_none, woken_fewer}
 use Rattle.chuck_vm.proofs.machine.Machine.wake_all.Goals as goal
+
+pub waiters-init : goal.waiters-init
+waiters-init c = record {
+  orderly = c.requires.orderly;
+  code = refl;
+  ran = refl;
+  woken = λ run stands. record { run = run; stands = stands; so = refl };
+}
 
 pub waiters-smaller : goal.waiters-smaller
 waiters-smaller c =
     let e = c.args.event.serial in
-    let some : is_some (longest e (seen c.waiters.self)) ≡ true = sym c.in_ok-wake_one.ensures.whether
+    let orderly = c.waiters.invariant.orderly.1 in
+    let run = orderly.run in
+    let next = woken run (longest e run) in
+    let some : is_some (longest e run) ≡ true = sym (c.in_ok-wake_one.ensures.whether run orderly.stands)
     ∙ c.if-branch.true in
-    subst (λ (run : Run Stopped). length run.waits < length (seen c.waiters.self).waits)
-    (sym c.in_ok-wake_one.ensures.woken)
-    (woken_fewer e (seen c.waiters.self) (longest e (seen c.waiters.self)) refl some)
+    omega (
+      arith,
+      woken_fewer e run (longest e run) refl some,
+      ap (length {A = Wait}) orderly.stands.waits,
+      ap (length {A = Wait}) (c.in_ok-wake_one.ensures.woken run orderly.stands).waits,
+    )
 
 pub waiters-preserved : goal.waiters-preserved
 waiters-preserved c =
     let e = c.args.event.serial in
-    let run = seen c.waiters.self in
-    let orderly = c.waiters.invariant.orderly in
-    let some : is_some (longest e (seen c.waiters.self)) ≡ true = sym c.in_ok-wake_one.ensures.whether
-    ∙ c.if-branch.true in
+    let next = c.waiters.invariant.orderly.0 in
+    let orderly = c.waiters.invariant.orderly.1 in
+    let woke = c.in_ok-wake_one.ensures in
     record {
-      code = c.in_ok-wake_one.ensures.code ∙ c.waiters.invariant.code;
-      ran = c.in_ok-wake_one.ensures.ran ∙ c.waiters.invariant.ran;
+      code = woke.code ∙ c.waiters.invariant.code;
+      ran = woke.ran ∙ c.waiters.invariant.ran;
       orderly = (
-        orderly.0,
-        subst (IsOrderly orderly.0) (sym c.in_ok-wake_one.ensures.woken)
-            (orderly_woken orderly.0 e run (longest e (seen c.waiters.self)) orderly.1 refl),
+        next,
+        record {
+          run = woken orderly.run (longest e orderly.run);
+          stands = woke.woken orderly.run orderly.stands;
+          so = orderly_woken next e orderly.run (longest e orderly.run) orderly.so refl;
+        },
       );
-      woken = ap (all_woken e) c.in_ok-wake_one.ensures.woken
-          ∙ woken_next orderly.0 e run (longest e (seen c.waiters.self)) orderly.1 refl some
-          ∙ c.waiters.invariant.woken;
+      woken = λ run stands.
+          let now = c.waiters.invariant.woken run stands in
+          let some : is_some (longest e now.run) ≡ true = sym (woke.whether now.run now.stands)
+          ∙ c.if-branch.true in
+          let apart = waits_apart c.waiters.self orderly.run now.run next orderly.stands now.stands orderly.so in
+          record {
+            run = woken now.run (longest e now.run);
+            stands = woke.woken now.run now.stands;
+            so = woken_next e now.run (longest e now.run) apart refl some ∙ now.so;
+          };
     }
 
 pub returns-clause-woken : goal.returns-clause-woken
-returns-clause-woken c =
+returns-clause-woken c = λ run stands.
     let e = c.args.event.serial in
-    let none : is_some (longest e (seen c.waiters.self)) ≡ false = sym c.in_ok-wake_one.ensures.whether
+    let woke = c.in_ok-wake_one.ensures in
+    let now = c.waiters.invariant.woken run stands in
+    let none : is_some (longest e now.run) ≡ false = sym (woke.whether now.run now.stands)
     ∙ c.if-branch.false in
-    c.in_ok-wake_one.ensures.woken ∙ woken_none e (seen c.waiters.self) none ∙ c.waiters.invariant.woken
+    subst (Stands c.wake_one.new.self) (woken_none e now.run none ∙ now.so) (woke.woken now.run now.stands)

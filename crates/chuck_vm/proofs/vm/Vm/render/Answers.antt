@@ -4,8 +4,8 @@ use Rattle.ck_base.specs.declared.limits.TheConstants.{MAX_FILES, MAX_SAMPLES}
 use Rattle.ck_code.specs.declared.code.CodeParts.{CodeParts}
 use Rattle.ck_code.specs.Verified.{IsVerified}
 use Rattle.ck_meaning.specs.Replay.{run_code}
-use Rattle.ck_run.specs.Told.{silent}
 use Rattle.chuck_vm.specs.declared.wake.Wake.{Wake as MachineWake}
+use Rattle.chuck_vm.specs.Machine.{Stands}
 use Rattle.chuck_vm.specs.Tallies.{as_counted, trap_count}
 use Rattle.chuck_vm.specs.Telling.{Adds}
 use Rattle.chuck_vm.specs.Vm.{Sight, block_of}
@@ -36,7 +36,7 @@ invariant_of-result c =
     c.len-before.result c.deref.ensures.value place in
     let few : after ≤ MAX_SAMPLES = search rules in
     record {
-      machine_is = facts.stands ∙ ap (λ code. silent (run_code code after)) (sym same);
+      stands = subst (λ code. Stands c.make.new.self (run_code code after)) (sym same) facts.stands;
       wakes_is = slices_on code vm.made c.args.count c.args.wakes.now.items c.make.new.wakes.items
           facts.adds.wakes_are vm.slices _ c.saturating_add.result c.self.invariant.wakes_is (ap (length {A = MachineWake}) rest)
           c.saturating_add.ensures

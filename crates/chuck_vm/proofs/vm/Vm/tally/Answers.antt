@@ -1,6 +1,5 @@
 use Rattle.std.proofs.Common.{◌≡◌, ◌<◌, ◌^◌, rules, subst}
 use Rattle.ck_meaning.specs.Replay.{run_code}
-use Rattle.machine_world.proofs.Stands.{of_each}
 use Rattle.chuck_vm.specs.Tallies.{tally_of}
 use Rattle.chuck_vm.specs.Vm.{Sight}
 use Rattle.chuck_vm.proofs.Tallying.{tally_is}
@@ -21,5 +20,5 @@ returns c =
     } ≡ tally_of (run_code s.code s.samples) (run_code s.code s.samples).begun in
     subst S c.self.view_is (rw c.from.ensures
     (tally_is vm.made vm.slices vm.traps c.shreds.result c.made.result c.ran.result vm.machine
-    c.self.invariant shreds objects (of_each _ _ c.shreds.ensures)
-    (of_each _ _ c.made.ensures) c.ran.ensures))
+    c.self.invariant shreds objects
+    c.shreds.ensures c.made.ensures c.ran.ensures))
