@@ -6,5 +6,6 @@ mod Within
 mod AtHand
 mod Ticks
 mod Sounds
+mod Turns
 mod Silence
 mod Blocks

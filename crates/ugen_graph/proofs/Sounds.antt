@@ -1,5 +1,5 @@
 -- What one node makes, in the list of all.
-use Rattle.std.proofs.Common.{◌≡◌, ◌≢◌, ℕ, ℤ, pos, ◌<◌, Bool, true, false, not, ◌==◌, nat_eq, List, [], ◌∷◌, length, map, Option, Some, None, IfSome, IsSomeAnd, nat_lt, ◌≤◌, slice_index_or, slice_set, refl, ap, sym, subst, ◌∙◌, inl, inr, arith}
+use Rattle.std.proofs.Common.{◌≡◌, ℕ, ℤ, pos, ◌<◌, Bool, false, not, ◌==◌, nat_eq, List, [], ◌∷◌, length, map, Option, Some, None, IfSome, IsSomeAnd, nat_lt, ◌≤◌, slice_index_or, slice_set, refl, ap, sym, subst, ◌∙◌, inl, inr, arith}
 use Rattle.std.proofs.lemmas.List.{get_or_default, get_or_past}
 use Rattle.std.proofs.lemmas.Option.{same_Some}
 use Rattle.std.proofs.lemmas.Bool.Decides.{nat_tests}
@@ -7,6 +7,8 @@ use Rattle.ugen_kinds.specs.declared.output.Output.{Output}
 use Rattle.ugen_kinds.specs.SoundFile.{SoundFile, no_waves}
 use Rattle.ugen_sample.specs.declared.choices.Channel.{Channel}
 use Rattle.ugen_sample.specs.declared.choices.Channel.TheVariants.{Mean, Left, Right}
+use Rattle.ugen_sample.specs.declared.choices.Joining.{Joining}
+use Rattle.ugen_sample.specs.declared.choices.Joining.TheVariants.{Sum}
 use Rattle.ugen_sample.specs.declared.unit.UnitState.{UnitState}
 use Rattle.ugen_sample.specs.Connection.{Connection}
 use Rattle.ugen_sample.specs.UnitState.{Units, unit_at}
@@ -18,10 +20,6 @@ use Rattle.ugen_graph.specs.Hands.{at_hand, sides, IsAllOf}
 fed_is : (f : ℕ → ℤ) (sources : List ℕ) → is_fed (map f sources) ≡ not (length sources == 0)
 fed_is f [] = refl
 fed_is f (s ∷ ss) = grind (arith, nat_tests)
-
-pub some_fed : (sources : List ℕ) → length sources ≢ 0 → true ≡ not (length sources == 0)
-some_fed [] h = absurd (h refl)
-some_fed (s ∷ ss) h = grind (arith, nat_tests)
 
 -- what is read at a place stands there
 read_is : (nodes : Units) (n : ℕ) (read : Option UnitState) (unit : UnitState) → n < length nodes
@@ -100,6 +98,11 @@ whole_is nodes sources first second reader unit after y within a b y_is h =
     h ∙ ap (λ (z : Output). gives unit (unit.generator, z)) input in
     ap (λ (o : Option UnitState). slice_set nodes 0 o) (ap (λ (u : UnitState). Some u) made
     ∙ ap (λ (o : Option UnitState). sounded_where no_waves 0 o heard) (sym there))
+
+-- one source is heard as it is where sources are summed
+pub one_heard : (joining : Joining) (v : ℤ) → joining ≡ Sum → v ≡ input_of joining (v ∷ [])
+unfolding input_of
+one_heard joining v e = rw e refl
 
 -- one without sources
 pub alone_is : (nodes : Units) (n : ℕ) (read : Option UnitState) (unit after : UnitState)
@@ -193,6 +196,17 @@ turn_other sources left right mine read units new n other within e made =
     made ∙ hand_other sources left right mine units n other
     (e ∙ get_or_default sources n read [] within)
 
+-- the turn of one that has these sources
+pub turn_own : (cs : List Connection) (ms : List ℕ) (units new : Units) (n : ℕ)
+    → nat_eq n dac ≡ false → sources_of cs n ≡ ms
+    → new ≡ made_from no_waves (λ _ _. ms) units n
+    → new ≡ made_from no_waves (sources_on cs) units n
+turn_own cs ms units new n other e made =
+    made ∙ ap (slice_set units n) (apart_other no_waves n (unit_at units n)
+    (λ channel. numbers_of units channel ms)
+    (λ channel. numbers_of units channel (sources_on cs channel n)) other
+    (ap (numbers_of units Mean) (sym e)))
+
 -- by the connections, where these are at hand
 pub turn_wired : (cs : List Connection) (sources : List (List ℕ)) (left right : List ℕ)
     (units new : Units) (n : ℕ) → ((m : ℕ) → slice_index_or sources m [] ≡ sources_of cs m)
@@ -221,7 +235,3 @@ there_is nodes n read unit Q some e is =
           let none : unit_at nodes n ≡ None = get_or_past nodes n None past in
           absurd (subst (λ (o : Option UnitState). IsSomeAnd o Q) none some)
     ]
-
-pub none_is : (ms : List ℕ) → true ≡ (length ms == 0) → [] ≡ ms
-none_is [] e = refl
-none_is (m ∷ ms) e = absurd (grind (arith, nat_tests))

@@ -7,6 +7,8 @@ use Rattle.ugen_sample.specs.UnitState.{Units}
 use Rattle.ugen_sample.specs.Order.{order, roots}
 use Rattle.ugen_sample.specs.Sample.{dac, sources_on}
 use Rattle.ugen_graph.specs.declared.link.Link.{Link}
+use Rattle.ugen_graph.specs.declared.turn.Turn.{Turn}
+use Rattle.ugen_graph.specs.Turns.{turns_of}
 
 -- a connection, by its nodes
 abbrev pub connection_of : Link → Connection
@@ -30,11 +32,12 @@ pub record Wired : Type 0 where
   pub size : ℕ
   pub links : List Link
 
--- the same with the order of pull and the sources of `dac` on each side, as they were found last
+-- the same with the order of pull, the turns and the sources of `dac` on each side, as they were found last
 pub record Laid : Type 0 where
   pub size : ℕ
   pub links : List Link
   pub order : List ℕ
+  pub turns : List Turn
   pub left : List ℕ
   pub right : List ℕ
 
@@ -46,6 +49,7 @@ abbrev pub found : Laid → Laid
 found w =
     record w {
       order = order roots (connections_of w.links);
+      turns = turns_of (connections_of w.links);
       left = sources_on (connections_of w.links) Left dac;
       right = sources_on (connections_of w.links) Right dac;
     }
@@ -53,5 +57,6 @@ found w =
 -- they are those of the connections
 pub record IsFound (w : Laid) : Type 0 where
   pub order : w.order ≡ order roots (connections_of w.links)
+  pub turns : w.turns ≡ turns_of (connections_of w.links)
   pub left : w.left ≡ sources_on (connections_of w.links) Left dac
   pub right : w.right ≡ sources_on (connections_of w.links) Right dac

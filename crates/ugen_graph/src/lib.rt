@@ -14,6 +14,7 @@ mod sample;
 mod sources;
 #[cfg(test)]
 mod tests;
+mod turn;
 mod visit;
 mod wires;
 mod wiring;

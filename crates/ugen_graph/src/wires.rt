@@ -6,14 +6,16 @@ ghost use Rattle.std.specs.Prelude.{IfErr};
 ghost use Rattle.fixed_point.specs.Wanting.{out_of_memory};
 ghost use Rattle.ugen_graph.specs.declared.link.ConnectEnd.TheVariants as wanted;
 ghost use Rattle.ck_base.specs.declared.limits.TheConstants.{MAX_CONNECTIONS};
-ghost use Rattle.ugen_sample.specs.Order.{order, roots, sources_of};
+ghost use Rattle.ugen_sample.specs.Order.{sources_of};
 ghost use Rattle.ugen_sample.specs.Sample.{sources_by, is_left, is_right, dac};
 ghost use Rattle.ugen_graph.specs.declared.link.ConnectEnd.TheVariants.{Connections};
+ghost use Rattle.ugen_graph.specs.Turns.{IsTurn, turns_of};
 ghost use Rattle.ugen_graph.specs.Walks.{AreWithin};
 ghost use Rattle.ugen_graph.specs.Wiring.{connections_of, found};
 
 use crate::link::{ConnectEnd, Link};
 use crate::sources::Sources;
+use crate::turn::{Turn, find_turns};
 use crate::visit::find_order;
 use ck_base::limits::MAX_CONNECTIONS;
 use ck_values::Side;
@@ -32,6 +34,7 @@ pub(crate) struct Wires {
     /// One for each node, for the visit that finds the order: only those in the order are marked.
     marks: Vec<bool>,
     order: Vec<usize>,
+    turns: Vec<Turn>,
     left: Vec<usize>,
     right: Vec<usize>,
 }
@@ -52,13 +55,21 @@ impl Wires {
     /// Two nodes without connections.
     pub(crate) fn new(alloc: Global) -> Result<Wires, Memory>
         ensures { IfOk result (λ w.
-            w ≡ record { size = 2; links = []; order = []; left = []; right = [] }) }
+            w ≡ record {
+              size = 2;
+              links = [];
+              order = [];
+              turns = [];
+              left = [];
+              right = [];
+            }) }
     {
         Ok(Wires {
             links: Vec::new(alloc),
             sources: vec![in alloc; Sources::new(alloc), Sources::new(alloc)]?,
             marks: vec![in alloc; false, false]?,
             order: Vec::with_capacity(alloc, 2)?,
+            turns: Vec::with_capacity(alloc, 2)?,
             left: Vec::new(alloc),
             right: Vec::new(alloc),
         })
@@ -70,6 +81,7 @@ impl Wires {
         ensures same { OnErr result (self.new ≡ self.old) }
     {
         self.order.reserve(self.sources.len() + 1)?;
+        self.turns.reserve(self.sources.len() + 1)?;
         self.marks.reserve(1)?;
         self.sources.push(Sources::new(alloc))?;
         self.marks.push_reserved(false);
@@ -123,11 +135,12 @@ impl Wires {
         link
     }
 
-    /// Finds the order of pull and the sources of `dac` on each side.
+    /// Finds the order of pull, the turns and the sources of `dac` on each side.
     pub(crate) fn find(&mut self)
         ensures { self.new ≡ found self.old }
     {
         find_order(&self.sources, &mut self.marks, &mut self.order);
+        find_turns(self.order.as_slice(), &self.sources, &mut self.turns);
         left_of(&self.links, &mut self.left);
         right_of(&self.links, &mut self.right);
     }
@@ -144,6 +157,15 @@ impl Wires {
         ensures value { result.now ≡ self.now.order }
     {
         self.order.as_slice()
+    }
+
+    /// The turns that were found last.
+    pub(crate) fn turns(&self) -> &[Turn]
+        ensures value { result.now ≡ self.now.turns }
+        ensures turns { let connections = connections_of self.now.links in
+            All (IsTurn self.now.size connections) (turns_of connections) }
+    {
+        self.turns.as_slice()
     }
 
     /// The sources of `dac` on the left side that were found last.
@@ -165,9 +187,7 @@ impl Wires {
         ensures count { length result.now ≡ self.now.size }
         ensures wired { (n : ℕ) → slice_index_or result.now n []
             ≡ sources_of (connections_of self.now.links) n }
-        ensures within { All (λ n. n < self.now.size)
-            (order roots (connections_of self.now.links)) }
-        ensures sources_within { AreWithin self.now.size result.now }
+        ensures within { AreWithin self.now.size result.now }
     {
         self.sources.as_slice()
     }

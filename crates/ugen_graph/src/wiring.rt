@@ -10,11 +10,13 @@ ghost use Rattle.ugen_sample.specs.declared.choices.Channel.TheVariants.{Left, R
 ghost use Rattle.ugen_sample.specs.Order.{order, roots, sources_of};
 ghost use Rattle.ugen_sample.specs.Sample.{sources_on, dac};
 ghost use Rattle.ugen_graph.specs.declared.link.ConnectEnd.TheVariants.{Connections};
+ghost use Rattle.ugen_graph.specs.Turns.{IsTurn, turns_of};
 ghost use Rattle.ugen_graph.specs.Walks.{AreWithin};
 ghost use Rattle.ugen_graph.specs.Wiring.{connections_of};
 
 use crate::link::{ConnectEnd, Link};
 use crate::sources::Sources;
+use crate::turn::Turn;
 use crate::wires::Wires;
 use fixed_point::Memory;
 use std::alloc::Global;
@@ -96,6 +98,14 @@ impl Wiring {
         self.wires.order()
     }
 
+    /// The turns of a sample.
+    pub(crate) fn turns(&self) -> &[Turn]
+        ensures found { result.now ≡ turns_of (connections_of self.now.links) }
+        ensures turns { All (IsTurn self.now.size (connections_of self.now.links)) result.now }
+    {
+        self.wires.turns()
+    }
+
     /// The sources of `dac` on the left side.
     pub(crate) fn left(&self) -> &[usize]
         ensures { result.now ≡ sources_on (connections_of self.now.links) Left dac }
@@ -115,9 +125,7 @@ impl Wiring {
         ensures count { length result.now ≡ self.now.size }
         ensures wired { (n : ℕ) → slice_index_or result.now n []
             ≡ sources_of (connections_of self.now.links) n }
-        ensures within { All (λ n. n < self.now.size)
-            (order roots (connections_of self.now.links)) }
-        ensures sources_within { AreWithin self.now.size result.now }
+        ensures within { AreWithin self.now.size result.now }
     {
         self.wires.sources()
     }

@@ -1,6 +1,8 @@
 use Rattle.std.proofs.Common.{Bool, List, vec_len, sym, subst, ◌∙◌}
 use Rattle.ugen_graph.specs.Walks.{AreOnly}
-use Rattle.ugen_graph.proofs.Ticks.{Hand, hand_within, found_order, found_marks, whole, laid_found}
+use Rattle.ugen_graph.specs.Wiring.{connections_of}
+use Rattle.ugen_graph.proofs.Ticks.{Hand, hand_within, found_order, found_marks, placed_within, whole, laid_found}
+use Rattle.ugen_graph.proofs.Turns.{turns_found}
 use Rattle.ugen_graph.proofs.wires.Wires.find.Goals as goal
 
 pub find_order-requires-clause-within : goal.find_order-requires-clause-within
@@ -12,6 +14,29 @@ find_order-requires-clause-within c =
       count = c.deref.ensures.len;
       two = c.self.invariant.two;
     })
+
+pub find_turns-requires-clause-within : goal.find_turns-requires-clause-within
+find_turns-requires-clause-within c =
+    let links = c.self.inside.links.items in
+    let sources = c.self.inside.sources.items in
+    let hand : Hand (vec_len c.self.inside.sources) links sources c.deref.result.now = record {
+      same = c.deref.ensures.value;
+      wired = c.self.invariant.wired;
+      between = c.self.invariant.between;
+      count = c.deref.ensures.len;
+      two = c.self.invariant.two;
+    } in
+    let now : Hand (vec_len c.self.inside.sources) links sources c.deref-2.result.now = record {
+      same = c.deref-2.ensures.value;
+      wired = c.self.invariant.wired;
+      between = c.self.invariant.between;
+      count = c.deref-2.ensures.len;
+      two = c.self.invariant.two;
+    } in
+    let is = found_order _ links sources c.deref.result.now c.find_order.new.order.items hand
+    c.find_order.new.marks c.find_order.ensures.walk in
+    placed_within _ links sources c.deref-2.result.now c.as_slice.result.now now
+    (c.as_slice.ensures.value ∙ is)
 
 pub returns : goal.returns
 returns c =
@@ -26,8 +51,12 @@ returns c =
     } in
     let is = found_order _ links sources c.deref.result.now c.find_order.new.order.items hand
     c.find_order.new.marks c.find_order.ensures.walk in
-    rw (← c.self.view_is) (laid_found _ links _ _ _ _ _ is
-    c.deref-2.ensures.value c.left_of.ensures.found c.deref-3.ensures.value c.right_of.ensures.found)
+    let placed = c.as_slice.ensures.value ∙ is in
+    let turns = turns_found (connections_of links) c.deref-2.result.now c.as_slice.result.now
+    c.find_turns.new.turns.items (rw c.deref-2.ensures.value c.self.invariant.wired) placed
+    c.find_turns.ensures.found in
+    rw (← c.self.view_is) (laid_found _ links _ _ _ _ _ _ is turns
+    c.deref-3.ensures.value c.left_of.ensures.found c.deref-4.ensures.value c.right_of.ensures.found)
 
 pub invariant_of-self : goal.invariant_of-self
 invariant_of-self c =
@@ -48,6 +77,7 @@ invariant_of-self c =
       two = c.self.invariant.two;
       marks = c.self.invariant.marks;
       room = rw c.find_order.ensures.capacity c.self.invariant.room;
+      turns_room = rw c.find_turns.ensures.capacity c.self.invariant.turns_room;
       left_room = rw c.left_of.ensures.capacity c.self.invariant.left_room;
       right_room = rw c.right_of.ensures.capacity c.self.invariant.right_room;
       wired = c.self.invariant.wired;

@@ -52,6 +52,7 @@ invariant_of-self c =
       two = c.self.invariant.two;
       marks = c.self.invariant.marks;
       room = c.self.invariant.room;
+      turns_room = c.self.invariant.turns_room;
       left_room = let f = c.self.invariant.left_room in omega arith;
       right_room = let f = c.self.invariant.right_room in omega arith;
       wired = rw c.remove.ensures out.wired;
