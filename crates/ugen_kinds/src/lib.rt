@@ -16,6 +16,7 @@ mod choices;
 mod delay_l;
 mod echo;
 mod envelope;
+mod frequency;
 mod generator;
 mod impulse;
 pub mod laws;

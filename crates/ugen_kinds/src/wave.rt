@@ -8,8 +8,9 @@ ghost use Rattle.ugen_kinds.specs.Wave.{wave_parameter, with_wave_parameter};
 ghost use Rattle.ugen_kinds.specs.Wave.{sync_number, sync_of};
 
 use crate::choices::{Sync, WaveForm};
+use crate::frequency::Frequency;
 use ck_values::Value;
-use fixed_point::{Fix, increment, phase_of, sine};
+use fixed_point::{Fix, phase_of, sine};
 use ugen_names::Param;
 
 /// The raw number of 1.0, and the phases of a turn.
@@ -23,7 +24,7 @@ const HALF_TURN: u32 = 1 << 31;
 #[derive(Drop)]
 pub struct Wave {
     pub(crate) form: WaveForm,
-    frequency: Fix,
+    frequency: Frequency,
     phase: u32,
     sync: Sync,
     width: Fix,
@@ -36,7 +37,7 @@ impl Wave {
     {
         Wave {
             form,
-            frequency: Fix::from_raw(220 * ONE),
+            frequency: Frequency::new(Fix::from_raw(220 * ONE)),
             phase: 0,
             sync: Sync::Frequency,
             width: Fix::from_raw(ONE / 2),
@@ -49,14 +50,14 @@ impl Wave {
         ensures { (self.new, result) ≡ wave_tick self.old x fed }
     {
         let frequency = match self.sync {
-            Sync::Modulation => self.frequency.add(x),
+            Sync::Modulation => Frequency::new(self.frequency.turns().add(x)),
             Sync::Phase if fed => {
                 self.phase = phase_of(x.raw());
                 return height(self.form, self.width, self.phase);
             }
             Sync::Frequency | Sync::Phase => {
                 if fed {
-                    self.frequency = x;
+                    self.frequency = Frequency::new(x);
                 }
                 self.frequency
             }
@@ -66,11 +67,11 @@ impl Wave {
 
     /// The output at the phase, which then goes on by a step at this frequency.
     #[inline(always)]
-    fn go_on(&mut self, frequency: Fix) -> Fix
+    fn go_on(&mut self, frequency: Frequency) -> Fix
         ensures { (self.new, result) ≡ goes_on frequency self.old }
     {
         let y = height(self.form, self.width, self.phase);
-        self.phase = self.phase.wrapping_add(increment(frequency));
+        self.phase = self.phase.wrapping_add(frequency.step());
         y
     }
 
@@ -80,7 +81,7 @@ impl Wave {
         ensures { Some (meant result) ≡ wave_parameter p self.now }
     {
         match p {
-            Param::Freq => Value::Float(self.frequency),
+            Param::Freq => Value::Float(self.frequency.turns()),
             Param::Phase => Value::Float(Fix::from_raw(i64::from(self.phase))),
             Param::Sync => Value::Int(sync_number(self.sync)),
             Param::Width => Value::Float(self.width),
@@ -94,7 +95,7 @@ impl Wave {
         ensures { Some (self.new) ≡ with_wave_parameter p (meant v) self.old }
     {
         match (p, v) {
-            (Param::Freq, Value::Float(x)) => self.frequency = x,
+            (Param::Freq, Value::Float(x)) => self.frequency = Frequency::new(x),
             (Param::Phase, Value::Float(x)) => self.phase = phase_of(x.raw()),
             (Param::Sync, Value::Int(n)) => self.sync = sync_of(n, self.sync),
             (Param::Width, Value::Float(x)) => self.width = x,
