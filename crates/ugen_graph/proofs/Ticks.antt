@@ -5,7 +5,6 @@ use Rattle.std.proofs.lemmas.List.{take_at}
 use Rattle.ugen_sample.specs.Order.{order, roots}
 use Rattle.ugen_graph.specs.declared.link.Link.{Link}
 use Rattle.ugen_graph.specs.declared.turn.Turn.{Turn}
-use Rattle.ugen_graph.specs.Turns.{turns_of}
 use Rattle.ugen_graph.specs.Walks.{AreWithin, AreOnly, Walk, walk, walk_all}
 use Rattle.ugen_graph.specs.Wiring.{Laid, connections_of, found}
 use Rattle.ugen_sample.specs.Sample.{dac, sources_by, is_left, is_right}
@@ -67,7 +66,6 @@ whole n ws xs e = take_at ws (drop (length ws) xs) n e
 -- all is found
 pub laid_found : (size : ℕ) (links now also : List Link) (order1 : List ℕ) (turns : List Turn)
     (left right : List ℕ) → order1 ≡ order roots (connections_of links)
-    → turns ≡ turns_of (connections_of links)
     → now ≡ links → left ≡ sources_by is_left (connections_of now) dac
     → also ≡ links → right ≡ sources_by is_right (connections_of also) dac
     → record {
@@ -78,8 +76,8 @@ pub laid_found : (size : ℕ) (links now also : List Link) (order1 : List ℕ) (
       left = left;
       right = right;
     }
-    ≡ found (record { size = size; links = links; order = []; turns = []; left = []; right = [] })
-laid_found size links now also order1 turns left right is t a l b r =
+    ≡ found (record { size = size; links = links; order = []; turns = []; left = []; right = [] }) turns
+laid_found size links now also order1 turns left right is a l b r =
     ap (λ (ns : List ℕ). let w : Laid = record {
       size = size;
       links = links;
@@ -88,19 +86,11 @@ laid_found size links now also order1 turns left right is t a l b r =
       left = left;
       right = right;
     } in w) is
-    ∙ ap (λ (ts : List Turn). let w : Laid = record {
-      size = size;
-      links = links;
-      order = order roots (connections_of links);
-      turns = ts;
-      left = left;
-      right = right;
-    } in w) t
     ∙ ap (λ (ns : List ℕ). let w : Laid = record {
       size = size;
       links = links;
       order = order roots (connections_of links);
-      turns = turns_of (connections_of links);
+      turns = turns;
       left = ns;
       right = right;
     } in w) (l ∙ ap (λ (ls : List Link). sources_by is_left (connections_of ls) dac) a)
@@ -108,7 +98,7 @@ laid_found size links now also order1 turns left right is t a l b r =
       size = size;
       links = links;
       order = order roots (connections_of links);
-      turns = turns_of (connections_of links);
+      turns = turns;
       left = sources_by is_left (connections_of links) dac;
       right = ns;
     } in w) (r ∙ ap (λ (ls : List Link). sources_by is_right (connections_of ls) dac) b)

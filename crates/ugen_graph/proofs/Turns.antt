@@ -1,113 +1,147 @@
 -- The turns of a sample are those of the order of pull.
-use Rattle.std.proofs.Common.{◌≡◌, ℕ, zero, suc, ◌<◌, true, false, nat_eq, List, [], ◌∷◌, map, slice_index_or, refl, ap, subst, ◌∙◌, inl, inr, arith}
-use Rattle.std.specs.List.{All, fold}
+use Rattle.std.proofs.Common.{◌≡◌, ℕ, zero, suc, ◌+◌, ◌-◌, ◌<◌, ◌≤◌, ◌++◌, Bool, if◌then◌else◌, true, false, nat_eq, nat_lt, List, [], ◌∷◌, Some, None, refl, ap, sym, subst, ◌∙◌, inl, inr, arith, append-nil, append_assoc}
+use Rattle.std.specs.List.{fold, flat_map, range_with_len}
+use Rattle.std.proofs.lemmas.List.Elements.{All-push, All-pop}
+use Rattle.std.proofs.lemmas.List.Concat.{flat_map-append}
+use Rattle.std.proofs.lemmas.List.Sums.{fold-append}
+use Rattle.std.proofs.lemmas.Bool.Decides.{nat_tests}
+use Rattle.std.proofs.lemmas.Option.{same_Some}
 use Rattle.ugen_kinds.specs.SoundFile.{no_waves}
 use Rattle.ugen_sample.specs.Connection.{Connection}
 use Rattle.ugen_sample.specs.UnitState.{Units}
 use Rattle.ugen_sample.specs.Order.{sources_of, order, roots}
+use Rattle.ugen_sample.proofs.Among.{either, equal}
 use Rattle.ugen_sample.specs.Sample.{dac, made_from, sampled, sources_on}
-use Rattle.ugen_sample.proofs.Among.{either}
 use Rattle.ugen_graph.specs.declared.turn.Turn.{Turn}
 use Rattle.ugen_graph.specs.declared.turn.Turn.TheVariants.{Alone, Fed, Joined}
-use Rattle.ugen_graph.specs.Turns.{turn_from, turn_of, turns_of, node_of, IsTurn}
-use Rattle.ugen_graph.specs.Wires.{IsWired}
+use Rattle.ugen_graph.specs.Turns.{nodes_of, as_one, IsTurn, AreTurns}
 use Rattle.ugen_graph.proofs.Sounds.{turn_own}
-use Rattle.ugen_graph.proofs.Within.{Below, all_below}
 
 -- what is made at a turn is made of the sources of the node
-pub alone_turn : (size : ℕ) (cs : List Connection) (turn : Turn) (n : ℕ) (units new : Units)
-    → turn ≡ Alone n → IsTurn size cs turn → new ≡ made_from no_waves (λ _ _. []) units n
-    → new ≡ made_from no_waves (sources_on cs) units (node_of turn)
-alone_turn size cs turn n units new is right made =
-    let t : IsTurn size cs (Alone n) = subst (IsTurn size cs) is right in
-    rw is (turn_own cs [] units new n t.1 t.2 made)
-
 pub fed_turn : (size : ℕ) (cs : List Connection) (turn : Turn) (n m : ℕ) (units new : Units)
     → turn ≡ Fed n m → IsTurn size cs turn → new ≡ made_from no_waves (λ _ _. m ∷ []) units n
-    → new ≡ made_from no_waves (sources_on cs) units (node_of turn)
+    → new ≡ fold (made_from no_waves (sources_on cs)) units (nodes_of turn)
 fed_turn size cs turn n m units new is right made =
     let t : IsTurn size cs (Fed n m) = subst (IsTurn size cs) is right in
     rw is (turn_own cs (m ∷ []) units new n t.1 t.2 made)
 
--- a turn is that of the node in the order
-node_from : (n : ℕ) (ms : List ℕ) → node_of (turn_from n ms) ≡ n
-node_from n [] = refl
-node_from n (m ∷ []) = refl
-node_from n (m ∷ l ∷ ms) = refl
+-- of those without sources one after another
+each_alone : (cs : List Connection) (count first : ℕ) (units : Units) → dac < first
+    → ((n : ℕ) → first ≤ n → n < first + count → sources_of cs n ≡ [])
+    → fold (made_from no_waves (λ _ _. [])) units (range_with_len first count)
+    ≡ fold (made_from no_waves (sources_on cs)) units (range_with_len first count)
+each_alone cs zero first units past none = refl
+each_alone cs (suc count) first units past none =
+    let other : nat_eq first dac ≡ false = grind (arith, nat_tests) in
+    let one = turn_own cs [] units (made_from no_waves (λ _ _. []) units first) first other
+    (none first (omega arith) (omega arith)) refl in
+    ap (λ (us : Units). fold (made_from no_waves (λ _ _. [])) us (range_with_len (first + 1) count)) one
+    ∙ each_alone cs count (first + 1) (made_from no_waves (sources_on cs) units first) (omega arith)
+    (λ n low high. none n (omega arith) (omega arith))
 
-node_is : (n : ℕ) (ms : List ℕ) → node_of (turn_of n ms) ≡ n
-node_is n ms = elim (nat_eq n dac) as (λ b. node_of (elim b [
-  | true ↦ Joined n
-  | false ↦ turn_from n ms
-]) ≡ n) [
-  | true ↦ refl
-  | false ↦ node_from n ms
-]
+pub alone_turn : (size : ℕ) (cs : List Connection) (turn : Turn) (first end : ℕ) (units new : Units)
+    → turn ≡ Alone first end → IsTurn size cs turn
+    → new ≡ fold (made_from no_waves (λ _ _. [])) units (range_with_len first (end - first))
+    → new ≡ fold (made_from no_waves (sources_on cs)) units (nodes_of turn)
+alone_turn size cs turn first end units new is right made =
+    let t : IsTurn size cs (Alone first end) = subst (IsTurn size cs) is right in
+    rw is (made ∙ each_alone cs (end - first) first units t.0 (λ n low high. t.3 n low (omega (arith, t.1))))
 
--- and right for its sources
-right_from : (size : ℕ) (cs : List Connection) (n : ℕ) (ms : List ℕ) → n < size
-    → nat_eq n dac ≡ false → sources_of cs n ≡ ms → All (λ m. m < size) ms
-    → IsTurn size cs (turn_from n ms)
-right_from size cs n [] h other e within = (h, other, e)
-right_from size cs n (m ∷ []) h other e within =
-    (h, other, e, within 0 m (omega arith))
-right_from size cs n (m ∷ l ∷ ms) h other e within = h
+-- two turns as one are the turns of their nodes
+ranges : (a m n : ℕ) → range_with_len a (m + n) ≡ range_with_len a m ++ range_with_len (a + m) n
+ranges a zero n =
+    let none : zero + n ≡ n = omega arith in
+    let here : a ≡ a + zero = omega arith in
+    ap (range_with_len a) none ∙ ap (λ (b : ℕ). range_with_len b n) here
+ranges a (suc m) n =
+    let one : suc m + n ≡ suc (m + n) = omega arith in
+    let on : (a + 1) + m ≡ a + suc m = omega arith in
+    ap (range_with_len a) one
+    ∙ ap (λ (ns : List ℕ). a ∷ ns) (ranges (a + 1) m n
+    ∙ ap (λ (b : ℕ). range_with_len (a + 1) m ++ range_with_len b n) on)
 
-turn_else : (n : ℕ) (ms : List ℕ) → nat_eq n dac ≡ false → turn_from n ms ≡ turn_of n ms
-turn_else n ms e = rw (e, turn_of) refl
+pub record IsOne (size : ℕ) (cs : List Connection) (last turn both : Turn) : Type 0 where
+  pub right : IsTurn size cs both
+  pub nodes : nodes_of both ≡ nodes_of last ++ nodes_of turn
 
-turn_dac : (n : ℕ) (ms : List ℕ) → nat_eq n dac ≡ true → Joined n ≡ turn_of n ms
-turn_dac n ms e = rw (e, turn_of) refl
+if_some : (b : Bool) (turn both : Turn) → (if b then Some turn else None) ≡ Some both
+    → (b ≡ true) × (turn ≡ both)
+if_some true turn both e = (refl, same_Some _ _ e)
+if_some false turn both e = absurd cc
 
-right_is : (size : ℕ) (cs : List Connection) (n : ℕ) → n < size
-    → All (λ m. m < size) (sources_of cs n) → IsTurn size cs (turn_of n (sources_of cs n))
-right_is size cs n h within = elim (either (nat_eq n dac)) [
-  | inl on ↦ subst (IsTurn size cs) (turn_dac n (sources_of cs n) on) h
-  | inr off ↦
-      subst (IsTurn size cs) (turn_else n (sources_of cs n) off)
-      (right_from size cs n (sources_of cs n) h off refl within)
-]
+pub one_turn : (size : ℕ) (cs : List Connection) (last turn both : Turn)
+    → as_one last turn ≡ Some both → IsTurn size cs last → IsTurn size cs turn
+    → IsOne size cs last turn both
+one_turn size cs (Alone first end) (Alone next after) both is a b =
+    let parts = if_some (nat_eq end next) (Alone first after) both is in
+    let there : end ≡ next = equal end next parts.0 in
+    let count : after - first ≡ (end - first) + (after - next) = omega (arith, a.1, b.1, there) in
+    let behind : first + (end - first) ≡ next = omega (arith, a.1, there) in
+    subst (IsOne size cs (Alone first end) (Alone next after)) parts.1 (record {
+      right = (
+        a.0,
+        omega (arith, a.1, b.1, there),
+        b.2,
+        λ n low high.
+            elim (either (nat_lt n end)) [
+              | inl early ↦ a.3 n low (grind (arith, nat_tests))
+              | inr late ↦ b.3 n (grind (arith, nat_tests)) high
+            ],
+      );
+      nodes = ap (range_with_len first) count ∙ ranges first (end - first) (after - next)
+          ∙ ap (λ (k : ℕ). range_with_len first (end - first) ++ range_with_len k (after - next))
+          behind;
+    })
+one_turn size cs (Alone first end) (Fed n m) both is a b = absurd cc
+one_turn size cs (Alone first end) (Joined n) both is a b = absurd cc
+one_turn size cs (Fed n m) turn both is a b = absurd cc
+one_turn size cs (Joined n) turn both is a b = absurd cc
 
-right_all : (size : ℕ) (cs : List Connection) → ((n : ℕ) → Below size (sources_of cs n))
-    → (ns : List ℕ) → Below size ns
-    → All (IsTurn size cs) (map (λ n. turn_of n (sources_of cs n)) ns)
-right_all size cs within [] b k d h = absurd (omega arith)
-right_all size cs within (n ∷ ns) b zero d h =
-    right_is size cs n b.0 (all_below size (sources_of cs n) (within n))
-right_all size cs within (n ∷ ns) b (suc k) d h = right_all size cs within ns b.1 k d (omega arith)
+-- a turn at the end
+pub turn_added : (size : ℕ) (cs : List Connection) (ns : List ℕ) (turns : List Turn) (turn : Turn)
+    → AreTurns size cs ns turns → IsTurn size cs turn
+    → AreTurns size cs (ns ++ nodes_of turn) (turns ++ turn ∷ [])
+turn_added size cs ns turns turn are right =
+    record {
+      nodes = flat_map-append nodes_of turns (turn ∷ [])
+          ∙ ap (λ (ms : List ℕ). flat_map nodes_of turns ++ ms) (append-nil (nodes_of turn))
+          ∙ ap (λ (ms : List ℕ). ms ++ nodes_of turn) are.nodes;
+      each = All-push (IsTurn size cs) turns turn are.each right;
+    }
 
-pub all_turns : (size : ℕ) (cs : List Connection) → ((n : ℕ) → Below size (sources_of cs n))
-    → Below size (order roots cs) → All (IsTurn size cs) (turns_of cs)
-all_turns size cs within b = right_all size cs within (order roots cs) b
+-- as one with the last
+pub turn_joined : (size : ℕ) (cs : List Connection) (ns : List ℕ) (rest : List Turn)
+    (last turn both : Turn) → AreTurns size cs ns (rest ++ last ∷ []) → IsTurn size cs turn
+    → as_one last turn ≡ Some both → AreTurns size cs (ns ++ nodes_of turn) (rest ++ both ∷ [])
+turn_joined size cs ns rest last turn both are right is =
+    let parts = All-pop (IsTurn size cs) (rest ++ last ∷ []) rest (Some last) refl are.each in
+    let one = one_turn size cs last turn both is parts.1 right in
+    let had : flat_map nodes_of rest ++ nodes_of last ≡ ns =
+    ap (λ (ms : List ℕ). flat_map nodes_of rest ++ ms) (sym (append-nil (nodes_of last)))
+    ∙ sym (flat_map-append nodes_of rest (last ∷ [])) ∙ are.nodes in
+    record {
+      nodes = flat_map-append nodes_of rest (both ∷ [])
+          ∙ ap (λ (ms : List ℕ). flat_map nodes_of rest ++ ms) (append-nil (nodes_of both) ∙ one.nodes)
+          ∙ sym (append_assoc (flat_map nodes_of rest) (nodes_of last) (nodes_of turn))
+          ∙ ap (λ (ms : List ℕ). ms ++ nodes_of turn) had;
+      each = All-push (IsTurn size cs) rest both parts.0 one.right;
+    }
 
 -- the sample goes by turns
 abbrev pub by_turn : List Connection → Units → Turn → Units
-by_turn cs units turn = made_from no_waves (sources_on cs) units (node_of turn)
+by_turn cs units turn = fold (made_from no_waves (sources_on cs)) units (nodes_of turn)
 
-fold_turns : (cs : List Connection) (f : ℕ → List ℕ) (units : Units) (ns : List ℕ)
-    → fold (by_turn cs) units (map (λ n. turn_of n (f n)) ns)
-    ≡ fold (made_from no_waves (sources_on cs)) units ns
-fold_turns cs f units [] = refl
-fold_turns cs f units (n ∷ ns) =
-    let made = made_from no_waves (sources_on cs) in
-    ap (λ (m : ℕ). fold (by_turn cs) (made units m) (map (λ n. turn_of n (f n)) ns)) (node_is n (f n))
-    ∙ fold_turns cs f (made units n) ns
+fold_turns : (cs : List Connection) (units : Units) (turns : List Turn)
+    → fold (by_turn cs) units turns
+    ≡ fold (made_from no_waves (sources_on cs)) units (flat_map nodes_of turns)
+fold_turns cs units [] = refl
+fold_turns cs units (turn ∷ turns) =
+    fold_turns cs (by_turn cs units turn) turns
+    ∙ sym (fold-append (made_from no_waves (sources_on cs)) units (nodes_of turn) (flat_map nodes_of turns))
 
-pub sample_is : (cs : List Connection) (units : Units)
-    → fold (by_turn cs) units (turns_of cs) ≡ sampled no_waves roots cs units
+pub sample_is : (size : ℕ) (cs : List Connection) (turns : List Turn) (units : Units)
+    → AreTurns size cs (order roots cs) turns
+    → fold (by_turn cs) units turns ≡ sampled no_waves roots cs units
 unfolding sampled
-sample_is cs units = fold_turns cs (sources_of cs) units (order roots cs)
-
--- they are found from the sources at hand
-from_hand : (cs : List Connection) (sources : List (List ℕ)) → IsWired cs sources → (ns : List ℕ)
-    → map (λ n. turn_of n (slice_index_or sources n [])) ns
-    ≡ map (λ n. turn_of n (sources_of cs n)) ns
-from_hand cs sources w [] = refl
-from_hand cs sources w (n ∷ ns) = rw (w.wired n, from_hand cs sources w ns) refl
-
-pub turns_found : (cs : List Connection) (sources : List (List ℕ)) (placed : List ℕ)
-    (turns : List Turn) → IsWired cs sources → placed ≡ order roots cs
-    → turns ≡ map (λ n. turn_of n (slice_index_or sources n [])) placed → turns ≡ turns_of cs
-turns_found cs sources placed turns w is found =
-    found ∙ from_hand cs sources w placed
-    ∙ ap (λ (ns : List ℕ). map (λ n. turn_of n (sources_of cs n)) ns) is
+sample_is size cs turns units are =
+    fold_turns cs units turns ∙ ap (fold (made_from no_waves (sources_on cs)) units) are.nodes

@@ -8,7 +8,7 @@ use Rattle.ugen_sample.specs.Order.{order, roots}
 use Rattle.ugen_sample.specs.Sample.{dac, sources_on}
 use Rattle.ugen_graph.specs.declared.link.Link.{Link}
 use Rattle.ugen_graph.specs.declared.turn.Turn.{Turn}
-use Rattle.ugen_graph.specs.Turns.{turns_of}
+use Rattle.ugen_graph.specs.Turns.{AreTurns}
 
 -- a connection, by its nodes
 abbrev pub connection_of : Link → Connection
@@ -45,18 +45,22 @@ abbrev pub wired_of : Laid → Wired
 wired_of w = record { size = w.size; links = w.links }
 
 -- they are found anew
-abbrev pub found : Laid → Laid
-found w =
+abbrev pub found : Laid → (turns : List Turn) → Laid
+found w turns =
     record w {
       order = order roots (connections_of w.links);
-      turns = turns_of (connections_of w.links);
+      turns = turns;
       left = sources_on (connections_of w.links) Left dac;
       right = sources_on (connections_of w.links) Right dac;
     }
 
+-- the turns are those of the order of pull
+abbrev pub ArePulled : ℕ → List Connection → List Turn → Type 0
+ArePulled size connections turns = AreTurns size connections (order roots connections) turns
+
 -- they are those of the connections
 pub record IsFound (w : Laid) : Type 0 where
   pub order : w.order ≡ order roots (connections_of w.links)
-  pub turns : w.turns ≡ turns_of (connections_of w.links)
+  pub turns : ArePulled w.size (connections_of w.links) w.turns
   pub left : w.left ≡ sources_on (connections_of w.links) Left dac
   pub right : w.right ≡ sources_on (connections_of w.links) Right dac

@@ -9,9 +9,8 @@ ghost use Rattle.ck_base.specs.declared.limits.TheConstants.{MAX_CONNECTIONS};
 ghost use Rattle.ugen_sample.specs.Order.{sources_of};
 ghost use Rattle.ugen_sample.specs.Sample.{sources_by, is_left, is_right, dac};
 ghost use Rattle.ugen_graph.specs.declared.link.ConnectEnd.TheVariants.{Connections};
-ghost use Rattle.ugen_graph.specs.Turns.{IsTurn, turns_of};
 ghost use Rattle.ugen_graph.specs.Walks.{AreWithin};
-ghost use Rattle.ugen_graph.specs.Wiring.{connections_of, found};
+ghost use Rattle.ugen_graph.specs.Wiring.{ArePulled, connections_of, found};
 
 use crate::link::{ConnectEnd, Link};
 use crate::sources::Sources;
@@ -137,7 +136,8 @@ impl Wires {
 
     /// Finds the order of pull, the turns and the sources of `dac` on each side.
     pub(crate) fn find(&mut self)
-        ensures { self.new ≡ found self.old }
+        ensures found { self.new ≡ found self.old self.new.turns }
+        ensures turns { ArePulled self.new.size (connections_of self.new.links) self.new.turns }
     {
         find_order(&self.sources, &mut self.marks, &mut self.order);
         find_turns(self.order.as_slice(), &self.sources, &mut self.turns);
@@ -161,9 +161,7 @@ impl Wires {
 
     /// The turns that were found last.
     pub(crate) fn turns(&self) -> &[Turn]
-        ensures value { result.now ≡ self.now.turns }
-        ensures turns { let connections = connections_of self.now.links in
-            All (IsTurn self.now.size connections) (turns_of connections) }
+        ensures { result.now ≡ self.now.turns }
     {
         self.turns.as_slice()
     }

@@ -1,7 +1,7 @@
 //! The connections, with what a sample needs of them at hand.
 ghost use Rattle.std.specs.Prelude.{◌≡◌, ◌↔◌, ◌<◌, ℕ, suc, [], ◌∷◌, ◌++◌, length, OnOk, OnErr, IfOk};
 ghost use Rattle.std.specs.Prelude.{Some, slice_get, slice_index_or};
-ghost use Rattle.std.specs.List.{remove, All};
+ghost use Rattle.std.specs.List.{remove};
 ghost use Rattle.std.specs.Prelude.{IfErr};
 ghost use Rattle.fixed_point.specs.Wanting.{out_of_memory};
 ghost use Rattle.ugen_graph.specs.declared.link.ConnectEnd.TheVariants as wanted;
@@ -10,9 +10,8 @@ ghost use Rattle.ugen_sample.specs.declared.choices.Channel.TheVariants.{Left, R
 ghost use Rattle.ugen_sample.specs.Order.{order, roots, sources_of};
 ghost use Rattle.ugen_sample.specs.Sample.{sources_on, dac};
 ghost use Rattle.ugen_graph.specs.declared.link.ConnectEnd.TheVariants.{Connections};
-ghost use Rattle.ugen_graph.specs.Turns.{IsTurn, turns_of};
 ghost use Rattle.ugen_graph.specs.Walks.{AreWithin};
-ghost use Rattle.ugen_graph.specs.Wiring.{connections_of};
+ghost use Rattle.ugen_graph.specs.Wiring.{ArePulled, connections_of};
 
 use crate::link::{ConnectEnd, Link};
 use crate::sources::Sources;
@@ -100,8 +99,7 @@ impl Wiring {
 
     /// The turns of a sample.
     pub(crate) fn turns(&self) -> &[Turn]
-        ensures found { result.now ≡ turns_of (connections_of self.now.links) }
-        ensures turns { All (IsTurn self.now.size (connections_of self.now.links)) result.now }
+        ensures { ArePulled self.now.size (connections_of self.now.links) result.now }
     {
         self.wires.turns()
     }

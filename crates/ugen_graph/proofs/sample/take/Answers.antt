@@ -4,8 +4,8 @@ use Rattle.ugen_graph.proofs.sample.take.Goals as goal
 
 pub returns-in-Alone : goal.returns-in-Alone
 returns-in-Alone c =
-    alone_turn _ (connections_of c.args.wiring.now.links) c.args.turn c.in-Alone.n c.args.nodes.now
-    c.sound_alone.new.nodes c.in-Alone.is c.requires.turn c.sound_alone.ensures
+    alone_turn _ (connections_of c.args.wiring.now.links) c.args.turn c.in-Alone.first c.in-Alone.end c.args.nodes.now
+    c.sound_row.new.nodes c.in-Alone.is c.requires.turn c.sound_row.ensures
 
 pub returns-in-Fed : goal.returns-in-Fed
 returns-in-Fed c =
