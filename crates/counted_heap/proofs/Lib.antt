@@ -9,3 +9,4 @@ pub mod Bodies
 pub mod Making
 pub mod Taking
 pub mod Reach
+pub mod Left

@@ -84,6 +84,55 @@ below-has zero y h = absurd (omega arith)
 below-has (suc n) y h =
     elim (cases_eq y n) [ inl e ↦ inl e | inr other ↦ inr (below-has n y (omega arith)) ]
 
+-- where each that stays is held from outside, or one that stays refers to it, it is reached
+module _ (h : Counted) (s : Objects) (Stays : ℕ → Type 0)
+    (held_by : (m : ℕ) → Stays m → IsRooted h m ⊎ ((x : ℕ) × Stays x × Points s x m)) where
+  -- walking back from m, which leads to each of the seen
+  walk : (fuel : ℕ) (m : ℕ) (seen unseen : List ℕ) → length unseen < fuel → Stays m
+      → ((y : ℕ) → In y seen → (y ≡ m) ⊎ Leads s m y)
+      → ((y : ℕ) → Stays y → In y seen ⊎ In y unseen) → Reached h s m
+  walk zero m seen unseen short here leads split = absurd (omega arith)
+  walk (suc fuel) m seen unseen short here leads split = elim (held_by m here) [
+    | inl rooted ↦ Rooted rooted
+    | inr (x, there, points) ↦
+        elim (split x there) [
+          | inl was ↦ elim (leads x was) [
+            | inl same ↦ Round (let P : ℕ → Type 0 = λ z. Leads s z m in subst P same (Step points))
+            | inr back ↦ Along (Round (lead_on s x m x points back)) points
+          ]
+          | inr fresh ↦
+              let w = without x unseen fresh in
+              Along
+              (walk fuel x (x ∷ seen) w.rest (omega (arith, w.shorter)) there
+              (λ y at. elim at [
+                | inl e ↦ inl e
+                | inr later ↦ elim (leads y later) [
+                  | inl e ↦ inr (let P : ℕ
+                      → Type 0 = λ z. Leads s x z in subst P (sym e) (Step points))
+                  | inr on ↦
+                      inr (lead_on s x m y points on)
+                ]
+              ])
+              (λ y so. elim (split y so) [
+                | inl was ↦ inl (inr was)
+                | inr later ↦ elim (w.keeps y later) [
+                  | inl e ↦ inl (inl e)
+                  | inr rest ↦
+                      inr rest
+                ]
+              ]))
+              points
+        ]
+  ]
+
+  -- where these have all that stay
+  pub reached_from : (m : ℕ) → Stays m → (ms : List ℕ) → ((y : ℕ) → Stays y → In y ms) → Reached h s m
+  reached_from m here ms all =
+      let w = without m ms (all m here) in
+      walk (suc (length w.rest)) m (m ∷ []) w.rest (omega arith) here
+      (λ y at. elim at [ inl e ↦ inl e | inr none ↦ absurd none ])
+      (λ y so. elim (w.keeps y (all y so)) [ inl e ↦ inl (inl e) | inr rest ↦ inr rest ])
+
 module _ (h : Counted) (s : Objects) (law : IsLawful h) (settled : NoneChained h)
     (stands : StandsFor h s) where
   -- a live object is held from outside or by a live object
@@ -110,56 +159,12 @@ module _ (h : Counted) (s : Objects) (law : IsLawful h) (settled : NoneChained h
             },
           )
 
-  -- walking back from m, which leads to each of the seen
-  walk : (fuel : ℕ) (m : ℕ) (seen unseen : List ℕ) → length unseen < fuel → IsLive h m
-      → ((y : ℕ) → In y seen → (y ≡ m) ⊎ Leads s m y)
-      → ((y : ℕ) → y < h.next → In y seen ⊎ In y unseen) → Reached h s m
-  walk zero m seen unseen short live leads split = absurd (omega arith)
-  walk (suc fuel) m seen unseen short live leads split = elim (held_by m live) [
-    | inl rooted ↦ Rooted rooted
-    | inr (x, alive, points) ↦
-        let n = law.numbered alive.it alive.live in
-        elim (split x (omega (arith, n.1, alive.number))) [
-          | inl was ↦ elim (leads x was) [
-            | inl same ↦ Round (let P : ℕ → Type 0 = λ z. Leads s z m in subst P same (Step points))
-            | inr back ↦ Along (Round (lead_on s x m x points back)) points
-          ]
-          | inr fresh ↦
-              let w = without x unseen fresh in
-              Along
-              (walk fuel x (x ∷ seen) w.rest (omega (arith, w.shorter)) alive
-              (λ y at. elim at [
-                | inl e ↦ inl e
-                | inr there ↦ elim (leads y there) [
-                  | inl e ↦ inr (let P : ℕ
-                      → Type 0 = λ z. Leads s x z in subst P (sym e) (Step points))
-                  | inr on ↦
-                      inr (lead_on s x m y points on)
-                ]
-              ])
-              (λ y low. elim (split y low) [
-                | inl was ↦ inl (inr was)
-                | inr there ↦ elim (w.keeps y there) [
-                  | inl e ↦ inl (inl e)
-                  | inr there' ↦
-                      inr there'
-                ]
-              ]))
-              points
-        ]
-  ]
-
   pub reached_from_live : (m : ℕ) → IsLive h m → Reached h s m
   reached_from_live m live =
-      let n = law.numbered live.it live.live in
-      let w = without m (below h.next) (below-has h.next m (omega (arith, n.1, live.number))) in
-      walk (suc (length w.rest)) m (m ∷ []) w.rest (omega arith) live
-      (λ y at. elim at [ inl e ↦ inl e | inr there ↦ absurd there ])
-      (λ y low. elim (w.keeps y (below-has h.next y low)) [
-        | inl e ↦ inl (inl e)
-        | inr there ↦
-            inr there
-      ])
+      reached_from h s (IsLive h) held_by m live (below h.next)
+      (λ y alive.
+      let n = law.numbered alive.it alive.live in
+      below-has h.next y (omega (arith, n.1, alive.number)))
 
   points_on : (x m : ℕ) → IsLive h x → Points s x m → IsLive h m
   points_on x m live points = by_body (object h live.it) refl live.live

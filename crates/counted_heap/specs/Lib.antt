@@ -3,3 +3,4 @@ pub mod Cells
 pub mod Counted
 pub mod Stands
 pub mod Reach
+pub mod Left

@@ -11,6 +11,7 @@ ghost use Rattle.counted_heap.specs.Counted.{SameObjects, SameHolds, Enters, Lea
 ghost use Rattle.counted_heap.specs.Counted.{Makes, MakesNone, Takes, NoneChained, IsLawful};
 ghost use Rattle.counted_heap.specs.Stands.{StandsFor, StandsOn};
 ghost use Rattle.counted_heap.specs.Reach.{LiveAreReached, LiveIsNumber};
+ghost use Rattle.counted_heap.specs.Left.{LiveAreLeft};
 
 use crate::cell::{self, Cell};
 use ck_base::limits::MAX_OBJECTS;
@@ -273,11 +274,13 @@ impl CountedHeap {
     }
 
     /// Where no object is chained, exactly those are live that a hold from outside or a cycle of
-    /// references reaches, and `live` is their number. It does nothing.
+    /// references reaches; `live` is their number, and that of the objects which counting leaves. It
+    /// does nothing.
     pub fn law_of_reach(&self)
         requires { NoneChained self.now }
         ensures reached { LiveAreReached self.now }
         ensures number { LiveIsNumber self.now }
+        ensures left { LiveAreLeft self.now }
     {
         let _cells = &self.cells;
     }
