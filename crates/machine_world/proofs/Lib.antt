@@ -21,3 +21,5 @@ pub mod Places
 pub mod Located
 pub mod Graphs
 pub mod Drawn
+pub mod Carried
+pub mod Operands

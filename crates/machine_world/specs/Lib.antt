@@ -4,3 +4,4 @@ pub mod Tries
 pub mod Acts
 pub mod Steps
 pub mod Units
+pub mod Scenes

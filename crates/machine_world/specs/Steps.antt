@@ -1,6 +1,7 @@
 -- What comes after an instruction.
 use Rattle.std.specs.Prelude.{◌≡◌, ◌⊎◌, ◌+◌, ℤ, pos, ◌≤ℤ◌, List, [], ◌∷◌}
 use Rattle.ck_values.specs.declared.trap.Place.{Place}
+use Rattle.ck_values.specs.declared.value.Value.{Value}
 use Rattle.ck_values.specs.Datum.{Datum}
 use Rattle.ck_values.specs.declared.operator.Op2.{Op2}
 use Rattle.ck_store.specs.Steps.{and_then}
@@ -14,7 +15,7 @@ use Rattle.ck_code.specs.declared.code.Step.{Step}
 use Rattle.ck_code.specs.declared.code.CodeParts.{CodeParts}
 use Rattle.ck_typed.specs.WellFormed.{IsMade}
 use Rattle.ck_code.specs.Machine.{Frame, Effect, Next, Stops, Over, Breaks, Bad, Action, frame, taken, effect}
-use Rattle.shred_state.specs.Frames.{Standing}
+use Rattle.shred_state.specs.Frames.{Standing, frame as held_frame}
 use Rattle.machine_world.specs.Acts.{all_acts_meant}
 use Rattle.machine_world.specs.Shown.{Shown, shown, locals_of, frames_of}
 use Rattle.machine_world.specs.Tries.{HasStore}
@@ -130,6 +131,11 @@ pub record IsSame (old new : Standing) : Type 0 where
   pub last : (shown new).last ≡ (shown old).last
 
 -- the shred before its next instruction, with these locals and operands
+abbrev pub next_standing : Standing → (locals operands : List Value) → Standing
+next_standing shred locals operands =
+    record shred { top = held_frame shred.top.fun (shred.top.place + 1) locals operands }
+
+-- the same, by what its values mean
 abbrev pub next_with : Standing → (locals operands : List Datum) → Shown
 next_with shred locals operands =
     let s = shown shred in

@@ -5,9 +5,8 @@ ghost use Rattle.machine_world.specs.declared.course.Course.TheVariants.{Ahead};
 ghost use Rattle.machine_world.specs.declared.course.Then.TheVariants.{GoesOn};
 ghost use Rattle.machine_world.specs.Shown.{shown, locals_of, operands_of, next_place};
 ghost use Rattle.shred_state.specs.Frames.{Standing};
-ghost use Rattle.machine_world.specs.Steps.{next_with, joined, IsAhead};
+ghost use Rattle.machine_world.specs.Steps.{next_with, next_standing, joined, IsAhead};
 
-use crate::frames;
 use ck_values::{Place, Ref, Trap, Value};
 use fixed_point::Memory;
 use shred_state::Shred;
@@ -67,18 +66,22 @@ pub fn parted(then: Then, stop: &mut Stop) -> Course
 }
 
 /// Puts an operand on the top, and goes on to the next instruction.
+#[tactic(auto, unfolding(crate::specs::Shown::shown))]
 #[inline(always)]
 pub fn put(shred: &mut Shred, v: Value) -> Result<Then, Memory>
     requires { next_place shred.old < 2 ^ 64 - 1 }
     ensures then { IfOk result (λ then. then ≡ GoesOn) }
     ensures put { OnOk result (shown shred.new ≡
         next_with shred.old (locals_of shred.old) (meant v ∷ operands_of shred.old)) }
+    ensures new { let top = shred.old.top in OnOk result
+        (shred.new ≡ next_standing shred.old top.locals (v ∷ top.operands)) }
 {
-    frames::push(shred, v)?;
+    shred.push(v)?;
     Ok(go_on(shred))
 }
 
 /// The same from the place where the shred stands.
+#[tactic(auto, unfolding(crate::specs::Shown::shown))]
 #[inline(always)]
 pub fn put_from(shred: &mut Shred, here: usize, v: Value) -> Result<Course, Memory>
     requires here { here ≡ next_place shred.old }
@@ -86,12 +89,15 @@ pub fn put_from(shred: &mut Shred, here: usize, v: Value) -> Result<Course, Memo
     ensures ahead { IfOk result (λ course. course ≡ Ahead) }
     ensures put { OnOk result (shown shred.new ≡
         next_with shred.old (locals_of shred.old) (meant v ∷ operands_of shred.old)) }
+    ensures new { let top = shred.old.top in OnOk result
+        (shred.new ≡ next_standing shred.old top.locals (v ∷ top.operands)) }
 {
-    frames::push(shred, v)?;
+    shred.push(v)?;
     Ok(go_on_from(shred, here))
 }
 
 /// Goes on to the next instruction, from the place where the shred stands.
+#[tactic(auto, unfolding(crate::specs::Shown::shown))]
 #[inline(always)]
 pub fn go_on_from(shred: &mut Shred, here: usize) -> Course
     requires here { here ≡ next_place shred.old }
@@ -99,19 +105,24 @@ pub fn go_on_from(shred: &mut Shred, here: usize) -> Course
     ensures ahead { result ≡ Ahead }
     ensures next { shown shred.new
         ≡ next_with shred.old (locals_of shred.old) (operands_of shred.old) }
+    ensures new { let top = shred.old.top in
+        shred.new ≡ next_standing shred.old top.locals top.operands }
 {
-    frames::go_on_from(shred, here);
+    shred.go_on_from(here);
     Course::Ahead
 }
 
 /// Goes on to the next instruction.
+#[tactic(auto, unfolding(crate::specs::Shown::shown))]
 #[inline(always)]
 pub fn go_on(shred: &mut Shred) -> Then
     requires { next_place shred.old < 2 ^ 64 - 1 }
     ensures then { result ≡ GoesOn }
     ensures next { shown shred.new
         ≡ next_with shred.old (locals_of shred.old) (operands_of shred.old) }
+    ensures new { let top = shred.old.top in
+        shred.new ≡ next_standing shred.old top.locals top.operands }
 {
-    frames::go_on(shred);
+    shred.go_on();
     Then::GoesOn
 }

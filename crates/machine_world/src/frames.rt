@@ -1,45 +1,22 @@
 //! What instructions do to the frames of a shred.
 ghost use Rattle.std.specs.Prelude.{◌≡◌, ◌<◌, ◌≤◌, ◌+◌, ◌^◌, ◌-◌, suc, [], ◌∷◌, drop, length};
-ghost use Rattle.std.specs.Prelude.{IfOk, IfErr, OnOk, OnErr, Some, slice_get};
+ghost use Rattle.std.specs.Prelude.{IfErr, OnOk, OnErr, Some, slice_get};
 ghost use Rattle.std.specs.Bool.{OnTrue, OnFalse};
 ghost use Rattle.ck_base.specs.declared.limits.TheConstants.{FRESH_TURNS, MAX_CALLS};
-ghost use Rattle.ck_values.specs.Datum.{meant, all_meant};
+ghost use Rattle.ck_values.specs.Datum.{meant};
 ghost use Rattle.ck_store.specs.Steps.{local_of, with_local};
 ghost use Rattle.ck_store.specs.Store.{Gives, IsFitting};
-ghost use Rattle.ck_typed.specs.WellFormed.{FoundWhere};
 ghost use Rattle.ck_code.specs.Machine.{taken};
-ghost use Rattle.shred_state.specs.Frames.{IsRefused, new_shred, with_values};
+ghost use Rattle.shred_state.specs.Frames.{IsRefused};
 ghost use Rattle.machine_world.specs.Shown.{shown, locals_of, operands_of, next_place};
-ghost use Rattle.machine_world.specs.Shown.{kinds_of, IsEntered, with_operands, with_locals};
-ghost use Rattle.machine_world.specs.Shown.{at_place, resumed_at, newly_shown};
+ghost use Rattle.machine_world.specs.Shown.{IsEntered, with_operands, with_locals};
+ghost use Rattle.machine_world.specs.Shown.{at_place, resumed_at};
 
-use crate::fetch::fun_at;
-use ck_code::Code;
+use crate::shreds::leave_function;
 use ck_values::{Kind, Value};
 use fixed_point::Memory;
 use shred_state::{EnterEnd, Shred};
 use std::alloc::Global;
-
-/// A shred that will run this function on its arguments, and which the parent sporked; 0 is none.
-#[tactic(auto, using(crate::proofs::Kept::kept))]
-pub fn new_shred(
-    alloc: Global,
-    code: &Code,
-    number: u64,
-    parent: u64,
-    fun: u32,
-    args: Vec<Value>,
-) -> Result<Shred, Memory>
-    requires { FoundWhere (slice_get code.now.funs fun) (λ fn. fn.params ≡ length args.items) }
-    ensures new { let kinds = kinds_of (slice_get code.now.funs fun) in
-        IfOk result (λ shred. shred ≡ new_shred number parent fun kinds args.items) }
-    ensures shown { let kinds = kinds_of (slice_get code.now.funs fun) in
-        IfOk result (λ shred.
-        shown shred ≡ newly_shown number parent fun kinds (all_meant args.items)) }
-{
-    let kinds = fun_at(code.parts(), fun).locals.items();
-    Ok(Shred::new(alloc, number, parent, fun, args, kinds)?)
-}
 
 /// The number of the shred.
 #[tactic(auto, unfolding(crate::specs::Shown::shown))]
@@ -233,16 +210,5 @@ pub fn leave(shred: &mut Shred) -> bool
     } }
     ensures same { OnFalse result (shown shred.new ≡ shown shred.old) }
 {
-    if shred.is_first() {
-        return false;
-    }
-    shed_all(shred);
-    shred.leave()
-}
-
-// Lets all values of the function that runs go.
-fn shed_all(shred: &mut Shred)
-    ensures { shred.new ≡ with_values shred.old [] [] }
-{
-    'shed: while let Some(_v) = shred.shed() {}
+    leave_function(shred)
 }

@@ -1,6 +1,7 @@
 //! Values whose types are known, and copies of values.
 ghost use Rattle.std.specs.Prelude.{◌≡◌, ◌-◌, ◌<◌, IfOk};
-ghost use Rattle.ck_values.specs.Datum.{meant, AnInt, AFloat, ADur, ARef};
+ghost use Rattle.ck_values.specs.declared.value.Value.TheVariants.{Ref as To};
+ghost use Rattle.ck_values.specs.Datum.{meant, AnInt, AFloat, ADur};
 ghost use Rattle.ck_store.specs.Operators.{int_in, float_in, dur_in};
 ghost use Rattle.ck_store.specs.Store.{IsFitting};
 ghost use Rattle.machine_world.specs.Tries.{IsReference};
@@ -47,7 +48,7 @@ pub fn dur(v: &Value) -> i64
 #[inline(always)]
 pub fn reference(v: &Value) -> Ref
     requires { IsReference (meant v.now) }
-    ensures { meant v.now ≡ ARef result.serial }
+    ensures { v.now ≡ To result }
 {
     match v {
         Value::Ref(at) => *at,

@@ -38,7 +38,7 @@ node_of-requires-2-clause-unit c =
     let store = store_of c.args.self.now in
     let from = ARef c.args.from.serial in
     let to = meant c.args.to.now in
-    subst (λ d. IsFitting (place_at (objects_of c.self.inside.heap) d)) c.reference-to.ensures
+    subst (λ d. IsFitting (place_at (objects_of c.self.inside.heap) d)) (ap meant c.reference-to.ensures)
     (unit_there _ _ c.self.view_is to
     (connect_second store from to c.in-Ok.node
     (place_there _ _ c.self.view_is from (Gives c.in-Ok.node) c.in-Ok.ensures) (of_some _ _ c.requires)))
@@ -53,27 +53,27 @@ returns-in-Err-node_of-clause-end c =
     connect_null_second store from to c.in-Ok.node trap
     (place_there _ _ c.self.view_is from (Gives c.in-Ok.node) c.in-Ok.ensures) (of_some _ _ c.requires)
     (place_there _ _ c.self.view_is to (Fails trap)
-    (subst (λ d. place_at (objects_of c.self.inside.heap) d ≡ Fails trap) (sym c.reference-to.ensures)
+    (subst (λ d. place_at (objects_of c.self.inside.heap) d ≡ Fails trap) (sym (ap meant c.reference-to.ensures))
     c.in-Err-node_of.ensures)))
 
 pub connect-requires-clause-from : goal.connect-requires-clause-from
 connect-requires-clause-from c =
     let there = subst (λ d. place_at (objects_of c.self.inside.heap) d ≡ Gives c.in-Ok-node_of.node)
-    (sym c.reference-to.ensures) c.in-Ok-node_of.ensures in
+    (sym (ap meant c.reference-to.ensures)) c.in-Ok-node_of.ensures in
     (are_there _ _ c.self.view_is (ARef c.args.from.serial) (meant c.args.to.now) c.in-Ok.node
     c.in-Ok-node_of.node c.in-Ok.ensures there (of_some _ _ c.requires)).from
 
 pub connect-requires-clause-to : goal.connect-requires-clause-to
 connect-requires-clause-to c =
     let there = subst (λ d. place_at (objects_of c.self.inside.heap) d ≡ Gives c.in-Ok-node_of.node)
-    (sym c.reference-to.ensures) c.in-Ok-node_of.ensures in
+    (sym (ap meant c.reference-to.ensures)) c.in-Ok-node_of.ensures in
     (are_there _ _ c.self.view_is (ARef c.args.from.serial) (meant c.args.to.now) c.in-Ok.node
     c.in-Ok-node_of.node c.in-Ok.ensures there (of_some _ _ c.requires)).to
 
 pub returns-clause-connected : goal.returns-clause-connected
 returns-clause-connected c =
     let there = subst (λ d. place_at (objects_of c.self.inside.heap) d ≡ Gives c.in-Ok-node_of.node)
-    (sym c.reference-to.ensures) c.in-Ok-node_of.ensures in
+    (sym (ap meant c.reference-to.ensures)) c.in-Ok-node_of.ensures in
     elim c.match-connect.branch [
       | in-Ok-connect w ↦ rw w.result-is
           (does_so _ _ _ _ (connect_made _ _ c.self.view_is (ARef c.args.from.serial) (meant c.args.to.now) c.in-Ok.node
@@ -86,7 +86,7 @@ returns-clause-connected c =
 pub returns-clause-end : goal.returns-clause-end
 returns-clause-end c =
     let there = subst (λ d. place_at (objects_of c.self.inside.heap) d ≡ Gives c.in-Ok-node_of.node)
-    (sym c.reference-to.ensures) c.in-Ok-node_of.ensures in
+    (sym (ap meant c.reference-to.ensures)) c.in-Ok-node_of.ensures in
     elim c.match-connect.branch [
       | in-Ok-connect w ↦ rw w.result-is tt
       | in-Err-Connections w ↦ rw w.result-is

@@ -42,7 +42,7 @@ node_of-requires-2-clause-unit c =
     let store = store_of c.args.self.now in
     let from = ARef c.args.from.serial in
     let to = meant c.args.to.now in
-    subst (λ d. IsFitting (place_at (objects_of c.self.inside.heap) d)) c.reference.ensures
+    subst (λ d. IsFitting (place_at (objects_of c.self.inside.heap) d)) (ap meant c.reference.ensures)
     (unit_there _ _ c.self.view_is to
     (disconnect_second store from to c.in_ok-from.from
     (place_there _ _ c.self.view_is from (Gives c.in_ok-from.from) c.in_ok-from.ensures) (of_some _ _ c.requires)))
@@ -53,7 +53,7 @@ returns-in_err-to-clause-null c =
     let trap = c.in_err-to.field-0.0 in
     let from = ARef c.args.from.serial in
     let to = meant c.args.to.now in
-    let null = subst (λ d. place_at (objects_of c.self.inside.heap) d ≡ Fails trap) (sym c.reference.ensures)
+    let null = subst (λ d. place_at (objects_of c.self.inside.heap) d ≡ Fails trap) (sym (ap meant c.reference.ensures))
     (c.in_err-to.ensures {u = tt}) in
     rw (p.1, p.2)
     (to_each _ _
@@ -65,7 +65,7 @@ pub returns-clause-disconnected : goal.returns-clause-disconnected
 returns-clause-disconnected c =
     does_so _ _ _ _
     (let there = subst (λ d. place_at (objects_of c.self.inside.heap) d ≡ Gives c.in_ok-to.to)
-    (sym c.reference.ensures) c.in_ok-to.ensures in
+    (sym (ap meant c.reference.ensures)) c.in_ok-to.ensures in
     disconnect_made _ _ c.self.view_is c.disconnect.new.self (ARef c.args.from.serial) (meant c.args.to.now)
     c.in_ok-from.from c.in_ok-to.to c.in_ok-from.ensures there (of_some _ _ c.requires) c.disconnect.ensures.links)
 

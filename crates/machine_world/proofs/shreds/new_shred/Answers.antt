@@ -2,7 +2,7 @@ use Rattle.std.proofs.Common.{◌≡◌, ◌≤◌, ◌∙◌, rules, length, sl
 use Rattle.shred_state.specs.Frames.{new_shred}
 use Rattle.machine_world.specs.Shown.{shown, kinds_of}
 use Rattle.machine_world.proofs.Begins.{params_few, newly_meant}
-use Rattle.machine_world.proofs.frames.new_shred.Goals as goal
+use Rattle.machine_world.proofs.shreds.new_shred.Goals as goal
 
 pub new-requires : goal.new-requires
 new-requires c =

@@ -1,6 +1,6 @@
 use Rattle.std.proofs.Common.{◌≡◌, ◌+◌, length}
 use Rattle.shred_state.specs.Frames.{with_values}
-use Rattle.machine_world.proofs.frames.shed_all.Given as goal
+use Rattle.machine_world.proofs.shreds.shed_all.Given as goal
 
 abbrev pub invariant-shed : goal.invariant-shed
 invariant-shed l =
