@@ -1,101 +1,74 @@
 //! Instructions on arrays.
-ghost use Rattle.std.specs.Prelude.{◌≡◌, List, ◌-◌, ◌^◌, ◌<◌, IfOk, OnOk};
-ghost use Rattle.ck_code.specs.declared.code.CodeParts.{CodeParts};
+ghost use Rattle.std.specs.Prelude.{◌≡◌, IfOk};
 ghost use Rattle.ck_code.specs.declared.instr.Instr.TheVariants.{Item, SetItem, Append};
-ghost use Rattle.ck_store.specs.Arrays.{item_of, with_item, appended};
-ghost use Rattle.ck_store.specs.Store.{Store};
-ghost use Rattle.machine_world.specs.declared.acts.Act.{Act};
-ghost use Rattle.machine_world.specs.Shown.{operands_of, next_place};
-ghost use Rattle.machine_world.specs.Steps.{effect_of, of_two, of_three, Matches, Follows};
-ghost use Rattle.machine_world.specs.Steps.{Stays, IsSame};
-ghost use Rattle.machine_world.specs.Tries.{CanDo};
-ghost use Rattle.machine_world.specs.Worlds.{StandsFor};
+ghost use Rattle.machine_world.specs.Scenes.{CanRunIn, CarriesIn};
 
-use ck_values::Place;
+use ck_code::Step;
 use fixed_point::Memory;
-use machine_world::{Stop, Then, World, copied, frames, go_on, let_reference_go, reference};
+use machine_world::{Stop, Then, World, copied, go_on, let_reference_go, reference};
 use shred_state::Shred;
 use std::alloc::Global;
 use value_ops::OpEnd;
 
 /// Puts an item in the place of its array and of the index on top of it, or stops by the trap.
+#[tactic(auto, using(machine_world::proofs::Operands::operands), unfolding(machine_world::specs::Shown::shown))]
 #[inline(always)]
-pub fn put_item(
-    alloc: Global,
-    shred: &mut Shred,
-    world: &World,
-    place: Place,
-) -> Result<Then, Memory>
-    requires operands { CanDo world.now
-        (λ store. of_two (operands_of shred.old) (item_of store.objects)) }
-    requires place { next_place shred.old < 2 ^ 64 - 1 }
-    ensures follows { (code : CodeParts) (acts : List Act) (store : Store) →
-        StandsFor world.now store →
-        let effect = effect_of code Item place shred.old store acts in
-        IfOk result (λ then. Matches then effect place shred.new store acts) }
-    ensures same { OnOk result (IsSame shred.old shred.new) }
-    ensures stays { IfOk result (λ then. Stays then shred.old shred.new) }
+pub fn put_item(alloc: Global, at: &Step, shred: &mut Shred, world: &World) -> Result<Then, Memory>
+    requires is { at.now.instr ≡ Item }
+    requires can { CanRunIn world.now at.now shred.old }
+    ensures carries { IfOk result (λ then.
+        CarriesIn world.now at.now then shred.old shred.new world.now) }
 {
-    let index = frames::pop(shred);
-    let at = reference(frames::peek(shred));
-    match world.item(at, &index) {
+    let index = shred.pop();
+    let array = reference(shred.peek());
+    match world.item(array, &index) {
         Ok(v) => {
             let v = copied(alloc, v)?;
-            let_reference_go(frames::set_top(shred, v));
+            let_reference_go(shred.set_top(v));
             Ok(go_on(shred))
         }
-        Err(trap) => Ok(Then::Stopped(Stop::Trapped(trap, place))),
+        Err(trap) => Ok(Then::Stopped(Stop::Trapped(trap, at.place))),
     }
 }
 
 /// Sets an item of the array beneath the index on the top to the operand beneath both, which stays,
 /// or stops by the trap.
+#[tactic(auto, using(machine_world::proofs::Operands::operands), unfolding(machine_world::specs::Shown::shown))]
 #[inline(always)]
 pub fn set_item(
     alloc: Global,
+    at: &Step,
     shred: &mut Shred,
     world: &mut World,
-    place: Place,
 ) -> Result<Then, Memory>
-    requires operands { CanDo world.old
-        (λ store. of_three (operands_of shred.old) (λ v r i. with_item store r i v)) }
-    requires place { next_place shred.old < 2 ^ 64 - 1 }
-    ensures follows { (code : CodeParts) (acts : List Act) (store : Store) →
-        StandsFor world.old store →
-        let effect = effect_of code SetItem place shred.old store acts in
-        IfOk result (λ then. Follows then effect place shred.new world.new acts) }
-    ensures same { OnOk result (IsSame shred.old shred.new) }
-    ensures stays { IfOk result (λ then. Stays then shred.old shred.new) }
-    ensures ran { OnOk result (world.new.ran ≡ world.old.ran) }
+    requires is { at.now.instr ≡ SetItem }
+    requires can { CanRunIn world.old at.now shred.old }
+    ensures carries { IfOk result (λ then.
+        CarriesIn world.old at.now then shred.old shred.new world.new) }
 {
-    let index = frames::pop(shred);
-    let at = reference(&frames::pop(shred));
-    let v = copied(alloc, frames::peek(shred))?;
-    match world.set_item(at, &index, v) {
+    let index = shred.pop();
+    let array = reference(&shred.pop());
+    let v = copied(alloc, shred.peek())?;
+    match world.set_item(array, &index, v) {
         Ok(_old) => Ok(go_on(shred)),
-        Err(trap) => Ok(Then::Stopped(Stop::Trapped(trap, place))),
+        Err(trap) => Ok(Then::Stopped(Stop::Trapped(trap, at.place))),
     }
 }
 
 /// Takes the operand on the top to the end of the array beneath it, or stops by the trap.
+#[tactic(auto, using(machine_world::proofs::Operands::operands), unfolding(machine_world::specs::Shown::shown))]
 #[inline(always)]
-pub fn append(shred: &mut Shred, world: &mut World, place: Place) -> Result<Then, Memory>
-    requires operands { CanDo world.old
-        (λ store. of_two (operands_of shred.old) (appended store)) }
-    requires place { next_place shred.old < 2 ^ 64 - 1 }
-    ensures follows { (code : CodeParts) (acts : List Act) (store : Store) →
-        StandsFor world.old store →
-        let effect = effect_of code Append place shred.old store acts in
-        IfOk result (λ then. Follows then effect place shred.new world.new acts) }
-    ensures same { OnOk result (IsSame shred.old shred.new) }
-    ensures stays { IfOk result (λ then. Stays then shred.old shred.new) }
-    ensures ran { OnOk result (world.new.ran ≡ world.old.ran) }
+pub fn append(at: &Step, shred: &mut Shred, world: &mut World) -> Result<Then, Memory>
+    requires is { at.now.instr ≡ Append }
+    requires can { CanRunIn world.old at.now shred.old }
+    ensures carries { IfOk result (λ then.
+        CarriesIn world.old at.now then shred.old shred.new world.new) }
 {
-    let v = frames::pop(shred);
-    let at = reference(frames::peek(shred));
-    match world.append(at, v) {
+    let v = shred.pop();
+    let array = reference(shred.peek());
+    match world.append(array, v) {
         Ok(()) => Ok(go_on(shred)),
-        Err(OpEnd::Trap(trap)) => Ok(Then::Stopped(Stop::Trapped(trap, place))),
+        Err(OpEnd::Trap(trap)) => Ok(Then::Stopped(Stop::Trapped(trap, at.place))),
         Err(OpEnd::Memory(memory)) => Err(memory),
     }
 }

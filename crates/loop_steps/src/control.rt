@@ -1,30 +1,26 @@
 //! Jumps, calls and waits.
-ghost use Rattle.std.specs.Prelude.{◌≡◌, [], ◌∷◌, List, ◌+◌, ◌-◌, ◌^◌, ◌<◌, length, drop};
-ghost use Rattle.std.specs.Prelude.{slice_get, IfOk, OnOk};
-ghost use Rattle.ck_values.specs.Datum.{meant};
-ghost use Rattle.ck_values.specs.declared.trap.Place.{Place};
-ghost use Rattle.ck_code.specs.declared.code.CodeParts.{CodeParts};
+ghost use Rattle.std.specs.Prelude.{◌≡◌, [], ◌∷◌, List, ◌+◌, ◌-◌, ◌^◌, ◌<◌, drop, slice_get, IfOk};
 ghost use Rattle.ck_code.specs.declared.instr.Instr.TheVariants.{Turn, Return, Call, Virtual};
 ghost use Rattle.ck_code.specs.declared.instr.Instr.TheVariants.{WaitDur};
-ghost use Rattle.ck_code.specs.Machine.{frame, taken};
-ghost use Rattle.ck_store.specs.Steps.{pick, and_then, is_zero, wait_dur};
-ghost use Rattle.ck_store.specs.Store.{Store, Gives, IsFitting};
+ghost use Rattle.ck_code.specs.Machine.{taken};
+ghost use Rattle.ck_store.specs.Steps.{pick, and_then, is_zero};
+ghost use Rattle.ck_store.specs.Store.{Gives, IsFitting};
 ghost use Rattle.ck_typed.specs.WellFormed.{FoundWhere};
+ghost use Rattle.shred_state.specs.Frames.{at_place, with_operands};
 ghost use Rattle.machine_world.specs.declared.acts.Act.{Act};
 ghost use Rattle.machine_world.specs.declared.course.Then.TheVariants.{GoesOn};
-ghost use Rattle.machine_world.specs.Shown.{shown, locals_of, operands_of, next_place, at_place};
-ghost use Rattle.machine_world.specs.Shown.{with_operands};
-ghost use Rattle.machine_world.specs.Steps.{effect_in, effect_of, state_of, of_top, IsGood};
-ghost use Rattle.machine_world.specs.Steps.{Matches, Stays, IsSame, IsAhead, joined};
-ghost use Rattle.machine_world.specs.Tries.{HasStore, CanDo};
-ghost use Rattle.machine_world.specs.Worlds.{StandsFor};
+ghost use Rattle.machine_world.specs.Shown.{operands_of};
+ghost use Rattle.machine_world.specs.Steps.{of_top, joined, IsAhead};
+ghost use Rattle.machine_world.specs.Scenes.{scene, CanRun, CanRunIn, CanRunAlone, Carries};
+ghost use Rattle.machine_world.specs.Scenes.{CarriesIn, CarriesAlone};
+ghost use Rattle.machine_world.specs.Worlds.{Parts};
 
-use ck_code::CodeParts;
-use ck_values::{Place, Trap, Value};
+use ck_code::{CodeParts, Step};
+use ck_values::{Trap, Value};
 use fixed_point::Memory;
 use machine_world::{
-    Course, Stop, Then, World, frames, fun_at, go_on_from, let_float_go, let_int_go, reference,
-    wait_dur,
+    Acts, Course, Stop, Then, World, fun_at, go_on_from, leave_function, let_float_go, let_int_go,
+    reference, wait_dur,
 };
 use shred_state::{EnterEnd, Shred};
 use std::alloc::Global;
@@ -34,49 +30,46 @@ use value_ops::is_zero;
 #[inline(always)]
 pub fn jump(shred: &mut Shred, to: usize) -> Then
     ensures then { result ≡ GoesOn }
-    ensures jumped { shown shred.new ≡ at_place (shown shred.old) to }
+    ensures jumped { shred.new ≡ at_place shred.old to }
 {
-    frames::jump(shred, to);
+    shred.jump(to);
     Then::GoesOn
 }
 
 /// Goes on at a place where the operand on the top is 0, and else at the next instruction.
+#[tactic(auto, using(machine_world::proofs::Operands::operands), unfolding(machine_world::specs::Shown::shown))]
 #[inline(always)]
 pub fn jump_if_zero(shred: &mut Shred, here: usize, to: usize) -> Then
     requires operand { IsFitting (of_top (operands_of shred.old) is_zero) }
-    requires here { here ≡ next_place shred.old }
-    requires place { next_place shred.old < 2 ^ 64 - 1 }
+    requires here { here ≡ shred.old.top.place }
+    requires place { here < 2 ^ 64 - 1 }
     ensures then { result ≡ GoesOn }
     ensures jumped { and_then (of_top (operands_of shred.old) is_zero)
-        (λ is. Gives (pick is to (next_place shred.old + 1))) ≡ Gives (next_place shred.new) }
-    ensures kept { let operands = drop 1 (operands_of shred.old) in
-        let fun = (shown shred.old).top.fun in
-        let top = frame fun (next_place shred.new) (locals_of shred.old) operands in
-        shown shred.new ≡ record (shown shred.old) { top = top } }
+        (λ is. Gives (pick is to (here + 1))) ≡ Gives shred.new.top.place }
+    ensures kept { let left = with_operands shred.old (drop 1 shred.old.top.operands) in
+        shred.new ≡ at_place left shred.new.top.place }
 {
-    let condition = frames::pop(shred);
+    let condition = shred.pop();
     if is_zero(&condition) {
-        frames::jump(shred, to);
+        shred.jump(to);
     } else {
-        frames::go_on_from(shred, here);
+        shred.go_on_from(here);
     }
     Then::GoesOn
 }
 
 /// Spends a turn, and goes on; it is a trap where none is left.
+#[tactic(auto, unfolding(machine_world::specs::Shown::shown))]
 #[inline(always)]
-pub fn turn(shred: &mut Shred, here: usize, place: Place, stop: &mut Stop) -> Course
-    requires here { here ≡ next_place shred.old }
-    requires place { here < 2 ^ 64 - 1 }
-    ensures follows { (code : CodeParts) (store : Store) (acts : List Act) →
-        let effect = effect_of code Turn place shred.old store acts in
-        Matches (joined result stop.new) effect place shred.new store acts }
-    ensures same { IsSame shred.old shred.new }
-    ensures stays { Stays (joined result stop.new) shred.old shred.new }
+pub fn turn(at: &Step, shred: &mut Shred, here: usize, stop: &mut Stop) -> Course
+    requires is { at.now.instr ≡ Turn }
+    requires can { CanRunAlone at.now shred.old }
+    requires here { here ≡ shred.old.top.place }
+    ensures carries { CarriesAlone at.now (joined result stop.new) shred.old shred.new }
     ensures ahead { IsAhead result shred.old shred.new }
 {
-    if !frames::spend(shred) {
-        *stop = Stop::Trapped(Trap::Turns, place);
+    if !shred.spend() {
+        *stop = Stop::Trapped(Trap::Turns, at.place);
         return Course::Over;
     }
     go_on_from(shred, here)
@@ -84,137 +77,117 @@ pub fn turn(shred: &mut Shred, here: usize, place: Place, stop: &mut Stop) -> Co
 
 /// Gives the operand on the top to the frame beneath; the first function ends the shred. An int or
 /// a float goes the short way.
+#[tactic(auto, using(machine_world::proofs::Operands::operands), unfolding(machine_world::specs::Shown::shown))]
 #[inline(always)]
-pub fn leave(shred: &mut Shred) -> Result<Then, Memory>
-    requires { 0 < length (operands_of shred.old) }
-    ensures follows { (code : CodeParts) (place : Place) (store : Store) (acts : List Act) →
-        let effect = effect_of code Return place shred.old store acts in
-        IfOk result (λ then. Matches then effect place shred.new store acts) }
-    ensures same { OnOk result (IsSame shred.old shred.new) }
-    ensures stays { IfOk result (λ then. Stays then shred.old shred.new) }
+pub fn leave(at: &Step, shred: &mut Shred) -> Result<Then, Memory>
+    requires is { at.now.instr ≡ Return }
+    requires can { CanRunAlone at.now shred.old }
+    ensures carries { IfOk result (λ then. CarriesAlone at.now then shred.old shred.new) }
 {
-    if let Value::Int(n) = frames::peek(shred) {
+    if let Value::Int(n) = shred.peek() {
         let n = *n;
-        let_int_go(frames::pop(shred));
-        return give(shred, Value::Int(n));
+        let_int_go(shred.pop());
+        return give(at, shred, Value::Int(n));
     }
-    if let Value::Float(x) = frames::peek(shred) {
+    if let Value::Float(x) = shred.peek() {
         let x = *x;
-        let_float_go(frames::pop(shred));
-        return give(shred, Value::Float(x));
+        let_float_go(shred.pop());
+        return give(at, shred, Value::Float(x));
     }
-    let v = frames::pop(shred);
-    give(shred, v)
+    let v = shred.pop();
+    give(at, shred, v)
 }
 
 // Gives a value to the frame beneath, as an instruction does which found it on the top; the first
 // function ends the shred.
+#[tactic(auto, unfolding(machine_world::specs::Shown::shown))]
 #[inline(always)]
-fn give(shred: &mut Shred, v: Value) -> Result<Then, Memory>
-    ensures follows { (code : CodeParts) (place : Place) (store : Store) (acts : List Act) →
-        let found = with_operands (shown shred.old) (meant v ∷ operands_of shred.old) in
-        let effect = effect_in code Return place found (state_of shred.old store acts) in
-        IfOk result (λ then. Matches then effect place shred.new store acts) }
-    ensures same { OnOk result (IsSame shred.old shred.new) }
-    ensures stays { IfOk result (λ then. Stays then shred.old shred.new) }
+fn give(at: &Step, shred: &mut Shred, v: Value) -> Result<Then, Memory>
+    requires { at.now.instr ≡ Return }
+    ensures carries { let found = with_operands shred.old (v ∷ shred.old.top.operands) in
+        IfOk result (λ then. CarriesAlone at.now then found shred.new) }
 {
-    if !frames::leave(shred) {
+    if !leave_function(shred) {
         return Ok(Then::Stopped(Stop::Ended));
     }
-    frames::push(shred, v)?;
+    shred.push(v)?;
     Ok(Then::Moves)
 }
 
 /// Waits for the dur on the top; it is a trap where that is for a time before now.
+#[tactic(auto, using(machine_world::proofs::Operands::operands), unfolding(machine_world::specs::Shown::shown))]
 #[inline(always)]
-pub fn wait(shred: &mut Shred, world: &World, place: Place) -> Then
-    requires operand { CanDo world.now
-        (λ store. of_top (operands_of shred.old) (λ d. wait_dur d store)) }
-    requires place { next_place shred.old < 2 ^ 64 - 1 }
-    ensures follows { (code : CodeParts) (acts : List Act) (store : Store) →
-        StandsFor world.now store →
-        let effect = effect_of code WaitDur place shred.old store acts in
-        Matches result effect place shred.new store acts }
-    ensures same { IsSame shred.old shred.new }
-    ensures stays { Stays result shred.old shred.new }
+pub fn wait(at: &Step, shred: &mut Shred, world: &World) -> Then
+    requires is { at.now.instr ≡ WaitDur }
+    requires can { CanRunIn world.now at.now shred.old }
+    ensures carries { CarriesIn world.now at.now result shred.old shred.new world.now }
 {
-    let until = wait_dur(frames::peek(shred), world);
-    frames::pop(shred);
+    let until = wait_dur(shred.peek(), world);
+    shred.pop();
     match until {
         Ok(time) => {
-            frames::go_on(shred);
+            shred.go_on();
             Then::Stopped(Stop::At(time))
         }
-        Err(trap) => Then::Stopped(Stop::Trapped(trap, place)),
+        Err(trap) => Then::Stopped(Stop::Trapped(trap, at.place)),
     }
 }
 
-/// Enters a function, whose parameters are the topmost operands; it is a trap where no turn is
-/// left, or where a thousand calls are active.
+/// Enters a function, whose parameters are the topmost operands, as a call of it does at the place
+/// of the instruction; it is a trap where no turn is left, or where a thousand calls are active.
+#[tactic(auto, using(machine_world::proofs::Taken::taken_gives), unfolding(machine_world::specs::Shown::shown))]
 #[inline(always)] // its answer stays in registers then, and so do those of all other instructions
-#[tactic(auto, using(machine_world::proofs::Taken::taken_gives))]
 pub fn call(
     alloc: Global,
     code: &CodeParts,
+    at: &Step,
     shred: &mut Shred,
     here: usize,
     fun: u32,
-    place: Place,
 ) -> Result<Then, Memory>
     requires arguments { FoundWhere (slice_get code.now.funs fun)
         (λ fn. IsFitting (taken fn.params [] (operands_of shred.old))) }
-    requires here { here ≡ next_place shred.old }
-    requires place { next_place shred.old < 2 ^ 64 - 1 }
-    ensures follows { (store : Store) (acts : List Act) →
-        let effect = effect_of code.now (Call fun) place shred.old store acts in
-        IfOk result (λ then. Matches then effect place shred.new store acts) }
-    ensures same { OnOk result (IsSame shred.old shred.new) }
-    ensures stays { IfOk result (λ then. Stays then shred.old shred.new) }
+    requires here { here ≡ shred.old.top.place }
+    requires place { here < 2 ^ 64 - 1 }
+    ensures carries { (world : Parts) (acts : List Act) →
+        let call = record at.now { instr = Call fun } in IfOk result (λ then.
+        Carries code.now call then (scene shred.old world acts) (scene shred.new world acts)) }
 {
-    if !frames::spend(shred) {
-        return Ok(Then::Stopped(Stop::Trapped(Trap::Turns, place)));
+    if !shred.spend() {
+        return Ok(Then::Stopped(Stop::Trapped(Trap::Turns, at.place)));
     }
     let callee = fun_at(code, fun);
-    match frames::enter(
-        shred,
-        alloc,
-        here + 1,
-        fun,
-        callee.params,
-        callee.locals.items(),
-    ) {
+    match shred.enter(alloc, here + 1, fun, callee.params, callee.locals.items()) {
         Ok(()) => Ok(Then::Moves),
-        Err(EnterEnd::CallDepth) => Ok(Then::Stopped(Stop::Trapped(Trap::CallDepth, place))),
+        Err(EnterEnd::CallDepth) => Ok(Then::Stopped(Stop::Trapped(Trap::CallDepth, at.place))),
         Err(EnterEnd::Memory(memory)) => Err(memory),
     }
 }
 
 /// Calls the function in a slot of the object that is the deepest of the n topmost operands; null
 /// is a trap.
+#[tactic(auto, unfolding(machine_world::specs::Shown::shown))]
 #[inline(always)]
 pub fn send(
     alloc: Global,
     code: &CodeParts,
+    at: &Step,
     shred: &mut Shred,
     here: usize,
     world: &World,
+    acts: &Acts,
     slot: u32,
     n: usize,
-    place: Place,
 ) -> Result<Then, Memory>
-    requires good { HasStore world.now (λ store. (acts : List Act) →
-        IsGood (effect_of code.now (Virtual slot n) place shred.old store acts)) }
-    requires here { here ≡ next_place shred.old }
-    requires place { next_place shred.old < 2 ^ 64 - 1 }
-    ensures follows { (acts : List Act) (store : Store) → StandsFor world.now store →
-        let effect = effect_of code.now (Virtual slot n) place shred.old store acts in
-        IfOk result (λ then. Matches then effect place shred.new store acts) }
-    ensures same { OnOk result (IsSame shred.old shred.new) }
-    ensures stays { IfOk result (λ then. Stays then shred.old shred.new) }
+    requires is { at.now.instr ≡ Virtual slot n }
+    requires can { CanRun code.now at.now (scene shred.old world.now acts.now) }
+    requires here { here ≡ shred.old.top.place }
+    ensures carries { IfOk result (λ then. Carries code.now at.now then
+        (scene shred.old world.now acts.now) (scene shred.new world.now acts.now)) }
 {
-    let receiver = reference(frames::operand(shred, n - 1));
+    let receiver = reference(shred.operand(n - 1));
     match world.method(code, receiver, slot) {
-        Ok(fun) => call(alloc, code, shred, here, fun, place),
-        Err(trap) => Ok(Then::Stopped(Stop::Trapped(trap, place))),
+        Ok(fun) => call(alloc, code, at, shred, here, fun),
+        Err(trap) => Ok(Then::Stopped(Stop::Trapped(trap, at.place))),
     }
 }

@@ -3,6 +3,7 @@ ghost use Rattle.std.specs.Prelude.{◌≡◌, ◌∷◌, ◌+◌, ◌-◌, ◌^
 ghost use Rattle.std.specs.Prelude.{IfNone, slice_get, Some};
 ghost use Rattle.std.specs.Bool.{OnFalse};
 ghost use Rattle.ck_values.specs.declared.operator.Op2.{Op2 as Operator};
+ghost use Rattle.ck_values.specs.declared.value.Value.TheVariants.{Int as AValue};
 ghost use Rattle.ck_values.specs.Datum.{AnInt};
 ghost use Rattle.ck_code.specs.declared.code.Step.{Step as Instruction};
 ghost use Rattle.ck_code.specs.declared.instr.Instr.TheVariants.{Op2 as OnTwo};
@@ -11,7 +12,7 @@ ghost use Rattle.ck_store.specs.Operators.{binary};
 ghost use Rattle.ck_store.specs.Steps.{is_zero, pick, local_of, with_local};
 ghost use Rattle.ck_store.specs.Store.{State, Gives, IsFitting};
 ghost use Rattle.machine_world.specs.Shown.{shown, locals_of, operands_of, next_place};
-ghost use Rattle.machine_world.specs.Shown.{with_operands, with_locals};
+ghost use Rattle.shred_state.specs.Frames.{with_operands, with_locals};
 ghost use Rattle.machine_world.specs.Steps.{of_two, updated, IsSame};
 ghost use Rattle.loop_steps.specs.Ints.{CanPut, PutsInt, HasOperated, HasUpdated, holding};
 ghost use Rattle.loop_steps.specs.Ints.{state_with, run_from, HasGoneOn};
@@ -21,11 +22,12 @@ ghost use Rattle.machine_world.specs.Worlds.{counted};
 use ck_code::{Code, Instr, Step};
 use ck_values::{Op2, Value};
 use fixed_point::Memory;
-use machine_world::{frames, item_at, let_int_go, step_in, steps_at};
+use machine_world::{item_at, leave_function, let_int_go, step_in, steps_at};
 use shred_state::Shred;
 use value_ops::{int_units, of_ints};
 
 /// The int that an instruction puts on the top; None where it does anything else.
+#[tactic(auto, using(machine_world::proofs::Numbered::locals), unfolding(machine_world::specs::Shown::shown))]
 #[inline(always)]
 pub fn int_put(shred: &Shred, instr: &Instr) -> Option<i64>
     requires { CanPut instr.now (locals_of shred.now) }
@@ -34,7 +36,7 @@ pub fn int_put(shred: &Shred, instr: &Instr) -> Option<i64>
 {
     match instr {
         Instr::Int(n) => Some(*n),
-        Instr::Local(i) => match frames::local(shred, *i) {
+        Instr::Local(i) => match shred.local(*i) {
             Value::Int(n) => Some(*n),
             _ => None,
         },
@@ -58,24 +60,26 @@ fn operated_at(steps: &[Step], place: usize, a: i64, b: i64) -> Option<i64>
 
 // What an operator gives for the operand on the top, which it takes, and this int; None where the
 // operand is no int or the operator traps, and nothing is done then.
+#[tactic(auto, using(machine_world::proofs::Operands::operands), unfolding(machine_world::specs::Shown::shown))]
 #[inline(always)]
 fn operated(shred: &mut Shred, operator: Op2, b: i64) -> Option<i64>
     requires { IsFitting (of_two (AnInt b ∷ operands_of shred.old) (binary operator)) }
     ensures taken { IfSome result (λ n. (a : ℤ)
-        × (shown shred.old ≡ with_operands (shown shred.new) (AnInt a ∷ operands_of shred.new))
+        × (shred.old ≡ with_operands shred.new (AValue a ∷ shred.new.top.operands))
         × (binary operator (AnInt a) (AnInt b) ≡ Gives (AnInt n))) }
     ensures left { IfNone result (shred.new ≡ shred.old) }
 {
-    let Value::Int(a) = frames::operand(shred, 0) else {
+    let Value::Int(a) = shred.operand(0) else {
         return None;
     };
     let n = of_ints(operator, *a, b).ok()?;
-    let_int_go(frames::pop(shred));
+    let_int_go(shred.pop());
     Some(n)
 }
 
 // What an operator gives for a local and this int, where it is their sum, to which the local is set;
 // None where it is another operator or the local is no int, and nothing is done then.
+#[tactic(auto, using(machine_world::proofs::Numbered::locals), unfolding(machine_world::specs::Shown::shown))]
 #[inline(always)]
 fn added(shred: &mut Shred, i: u32, operator: Op2, b: i64) -> Option<i64>
     requires { let locals = locals_of shred.old in
@@ -83,17 +87,17 @@ fn added(shred: &mut Shred, i: u32, operator: Op2, b: i64) -> Option<i64>
         IsFitting (update (AnInt b)) }
     ensures sum { IfSome result (λ n.
         HasUpdated (locals_of shred.old) i operator b n (locals_of shred.new)) }
-    ensures kept { shown shred.new ≡ with_locals (shown shred.old) (locals_of shred.new) }
+    ensures kept { shred.new ≡ with_locals shred.old shred.new.top.locals }
     ensures left { IfNone result (shred.new ≡ shred.old) }
 {
     let Op2::AddIntInt = operator else {
         return None;
     };
-    let Value::Int(a) = frames::local(shred, i) else {
+    let Value::Int(a) = shred.local(i) else {
         return None;
     };
     let n = of_ints(operator, *a, b).ok()?;
-    frames::set_local(shred, i, Value::Int(n));
+    shred.set_local(i, Value::Int(n));
     Some(n)
 }
 
@@ -129,6 +133,7 @@ fn place_where(zero: bool, to: usize, behind: usize) -> usize
 /// to the function beneath. So an int needs no place among the operands from one such instruction to
 /// the next. What is begun from `from` on isn't counted in `begun` yet. True where another function
 /// may go on than the one that ran at first.
+#[tactic(auto, unfolding(machine_world::specs::Shown::shown))]
 #[inline(always)]
 pub fn go_on_with_int(
     code: &Code,
@@ -169,7 +174,7 @@ pub fn go_on_with_int(
                 *begun = counted_to(*begun, *from, *here);
                 *here = place_where(is_zero(top), *to, *here + 1);
                 *from = *here;
-                frames::jump(shred, *here);
+                shred.jump(*here);
                 return Ok(moved);
             }
             Instr::Op2(operator) => {
@@ -180,12 +185,12 @@ pub fn go_on_with_int(
                 *here += 1;
             }
             Instr::Return => {
-                if !frames::leave(shred) {
+                if !leave_function(shred) {
                     break 'line;
                 }
                 *begun = counted_to(*begun, *from, *here);
-                steps = steps_at(parts, frames::fun(shred));
-                *here = frames::place(shred);
+                steps = steps_at(parts, shred.fun());
+                *here = shred.place();
                 *from = *here;
                 moved = true;
             }
@@ -197,13 +202,13 @@ pub fn go_on_with_int(
                     top = n;
                     *here += 2;
                 } else {
-                    frames::push(shred, Value::Int(top))?;
+                    shred.push(Value::Int(top))?;
                     top = next;
                     *here += 1;
                 }
             }
             Instr::SetLocal(i) => {
-                frames::set_local(shred, *i, Value::Int(top));
+                shred.set_local(*i, Value::Int(top));
                 *here += 1;
             }
             Instr::OpLocal(i, operator) => {
@@ -215,20 +220,20 @@ pub fn go_on_with_int(
             }
             Instr::UnitInt(numerator, denominator) => {
                 let samples = int_units(*numerator, *denominator, &Value::Int(top));
-                frames::push(shred, samples)?;
+                shred.push(samples)?;
                 *here += 1;
-                frames::jump(shred, *here);
+                shred.jump(*here);
                 return Ok(moved);
             }
             Instr::Drop => {
                 *here += 1;
-                frames::jump(shred, *here);
+                shred.jump(*here);
                 return Ok(moved);
             }
             _ => break 'line,
         }
     }
-    frames::push(shred, Value::Int(top))?;
-    frames::jump(shred, *here);
+    shred.push(Value::Int(top))?;
+    shred.jump(*here);
     Ok(moved)
 }

@@ -20,6 +20,9 @@ use Rattle.loop_steps.proofs.Runs.{good, with_good}
 use Rattle.loop_steps.proofs.OnInts.{LeadsTo, one_on, one_lower, counted_on, effect_there, good_there, has_function}
 use Rattle.loop_steps.proofs.OnInts.{puts, operates, jumps, returns_to, sets, updates, counts_units, drops}
 use Rattle.loop_steps.proofs.OnInts.{can_put, local_fits, sum_fits, units_fit, operands_fit}
+use Rattle.loop_steps.proofs.Meant.{pushed_meant, placed_meant, beneath_meant, left_meant, locals_meant}
+use Rattle.loop_steps.proofs.Meant.{set_meant, set_locals_meant, set_there, fun_meant, place_meant}
+use Rattle.machine_world.proofs.Operands.{taken_meant}
 use Rattle.machine_world.proofs.Runnable.{runnable_at}
 use Rattle.loop_steps.proofs.ints.go_on_with_int.Goals.{After-step_in-at, In-Some, In-Some-operated_at, In-Some-added, In_ok-push-in-Int, After-counted_to-in-Return}
 use Rattle.loop_steps.proofs.ints.go_on_with_int.Goals as goal
@@ -120,13 +123,13 @@ pub returns-in-JumpZero-clause-gone : goal.returns-in-JumpZero-clause-gone
 returns-in-JumpZero-clause-gone c = λ t over.
     let here = (goal.at.returns-in-JumpZero-clause-gone c).After-step_in-at in
     let s = shown c.line.shred in
-    let goes : shown c.jump.new.shred ≡ at_place s (pick c.is_zero.result c.in-JumpZero.to (c.line.here + 1)) =
-    c.jump.ensures ∙ ap (at_place s) c.place_where.ensures in
+    let goes : shown c.jump.new.self ≡ at_place s (pick c.is_zero.result c.in-JumpZero.to (c.line.here + 1)) =
+    placed_meant _ _ _ c.jump.ensures ∙ ap (at_place s) c.place_where.ensures in
     subst (λ m. HasGoneOn c.args.code.now c.args.begun.now (c.args.here.now + 1 - c.args.from.now)
     (holding (shown c.args.shred.now) m (c.args.here.now + 1))
     (state_with t (shown c.args.shred.now).turns)
-    c.counted_to.result (c.place_where.result - c.place_where.result) (shown c.jump.new.shred)
-    (state_with t (shown c.jump.new.shred).turns)) (to_z-of_z w64 c.args.first (search rules))
+    c.counted_to.result (c.place_where.result - c.place_where.result) (shown c.jump.new.self)
+    (state_with t (shown c.jump.new.self).turns)) (to_z-of_z w64 c.args.first (search rules))
     (counted_on c.args.code.now c.parts-parts.ensures.verified _ _ _ _ _ _ _ _ _ _ (omega (arith, c.line.invariant.from, c.counted_to.ensures))
     (gone_on here t (over_kept here t over) _ (jumped_on here t _ c.in-JumpZero.to c.is_zero.result c.in-JumpZero.is
     c.is_zero.ensures goes)))
@@ -162,7 +165,7 @@ taken_on : (c : In-Some) (t : State) → let here = (goal.at.In-Some c).After-st
 taken_on c t =
     let taken = c.in-Some.ensures.taken in
     operated_on (goal.at.In-Some c).After-step_in-at t (shown c.operated.new.shred) c.in-Op2.operator
-    taken.0 _ _ c.in-Op2.is taken.1 taken.2 (sym (to_z-of_z w64 c.in-Some.n (search rules)))
+    taken.0 _ _ c.in-Op2.is (taken_meant _ _ _ taken.1) taken.2 (sym (to_z-of_z w64 c.in-Some.n (search rules)))
 
 pub line-smaller-in-Op2-1 : goal.line-smaller-in-Op2-1
 line-smaller-in-Op2-1 c =
@@ -179,16 +182,16 @@ line-preserved-in-Op2-1 c =
     let before = c.line.invariant in
     let taken = c.in-Some.ensures.taken in
     record {
-      steps = ap (λ (s : Shown). steps_of (slice_get c.args.code.now.funs s.top.fun)) (sym taken.1)
+      steps = ap (λ (s : Shown). steps_of (slice_get c.args.code.now.funs s.top.fun)) (sym (taken_meant _ _ _ taken.1))
           ∙ before.steps;
       from = omega (arith, before.from);
       over = c.line.invariant.over;
       gone = λ t over. gone_on (goal.at.In-Some here).After-step_in-at t over _ (taken_on here t);
-      fun = same_fun _ _ (shown c.args.shred.now).top.fun c.line.moved (ap (λ (s : Shown). s.top.fun) (sym taken.1)) before.fun;
+      fun = same_fun _ _ (shown c.args.shred.now).top.fun c.line.moved (ap (λ (s : Shown). s.top.fun) (sym (taken_meant _ _ _ taken.1))) before.fun;
       same = record {
-        number = ap (λ (s : Shown). s.number) (sym taken.1) ∙ before.same.number;
-        parent = ap (λ (s : Shown). s.parent) (sym taken.1) ∙ before.same.parent;
-        last = ap (λ (s : Shown). s.last) (sym taken.1) ∙ before.same.last;
+        number = ap (λ (s : Shown). s.number) (sym (taken_meant _ _ _ taken.1)) ∙ before.same.number;
+        parent = ap (λ (s : Shown). s.parent) (sym (taken_meant _ _ _ taken.1)) ∙ before.same.parent;
+        last = ap (λ (s : Shown). s.last) (sym (taken_meant _ _ _ taken.1)) ∙ before.same.last;
       };
     }
 
@@ -290,9 +293,10 @@ set_local-requires c =
     let here = (goal.at.set_local-requires c).After-step_in-at in
     let code = c.args.code.now in
     let at = c.step_in-at.result.now in
-    local_fits code c.in-SetLocal.i at.place (shown c.line.shred) (state_now here t) (held here) c.line.here
+    set_there c.line.shred c.in-SetLocal.i (AnInt (held here))
+    (local_fits code c.in-SetLocal.i at.place (shown c.line.shred) (state_now here t) (held here) c.line.here
     (subst (λ instr. IsGood (effect_in code instr at.place (now_of here) (state_now here t))) c.in-SetLocal.is
-    (good_there code (now_of here) (state_now here t) at (there here) (c.line.invariant.gone t c.line.invariant.over.1).over))
+    (good_there code (now_of here) (state_now here t) at (there here) (c.line.invariant.gone t c.line.invariant.over.1).over)))
 
 -- the int that was held is an operand beneath the one that is put
 put_over : (c : After-step_in-at) (t : State) (new : Shown) (n m : ℤ)
@@ -307,12 +311,13 @@ put_over c t new n m is same over =
 -- the same of the context that has it
 over_on : (c : In_ok-push-in-Int) (t : State) → let here = (goal.at.In_ok-push-in-Int c).After-step_in-at in
     LeadsTo c.args.code.now (now_of here) (state_now here t)
-    (holding (shown c.push-in_default-operated_at.new.shred) (kept c.in-Some-int_put.next) (c.line.here + 1))
-    (state_with t (shown c.push-in_default-operated_at.new.shred).turns)
+    (holding (shown c.push-in_default-operated_at.new.self) (kept c.in-Some-int_put.next) (c.line.here + 1))
+    (state_with t (shown c.push-in_default-operated_at.new.self).turns)
 over_on c t =
     let next = c.in-Some-int_put.next in
-    put_over (goal.at.In_ok-push-in-Int c).After-step_in-at t (shown c.push-in_default-operated_at.new.shred) next (kept next)
-    c.in-Some-int_put.ensures.puts (sym (to_z-of_z w64 next (search rules))) c.in_ok-push-in-Int.ensures
+    put_over (goal.at.In_ok-push-in-Int c).After-step_in-at t (shown c.push-in_default-operated_at.new.self) next (kept next)
+    c.in-Some-int_put.ensures.puts (sym (to_z-of_z w64 next (search rules)))
+    (pushed_meant _ _ _ (c.in_ok-push-in-Int.ensures {u = tt}).pushed)
 
 pub line-smaller : goal.line-smaller
 line-smaller c =
@@ -327,7 +332,7 @@ pub line-preserved : goal.line-preserved
 line-preserved c =
     let there = (goal.at.line-preserved c).In_ok-push-in-Int in
     let before = c.line.invariant in
-    let pushed = c.in_ok-push-in-Int.ensures in
+    let pushed = pushed_meant _ _ _ (c.in_ok-push-in-Int.ensures {u = tt}).pushed in
     record {
       steps = ap (λ (s : Shown). steps_of (slice_get c.args.code.now.funs s.top.fun)) pushed
           ∙ before.steps;
@@ -396,7 +401,7 @@ returns-in-UnitInt-clause-gone c = λ t over.
     let n = c.in-UnitInt.numerator in
     let d = c.in-UnitInt.denominator in
     let v = meant c.int_units-samples.result in
-    let new = shown c.jump-in-UnitInt.new.shred in
+    let new = shown c.jump-in-UnitInt.new.self in
     let gives : int_units n d (AnInt (held here)) ≡ Gives v =
     ap (λ n. int_units n d (AnInt (held here))) (sym (to_z-of_z w64 n (search rules)))
     ∙ ap (λ d. int_units (kept n) d (AnInt (held here))) (sym (to_z-of_z w64 d (search rules)))
@@ -405,10 +410,11 @@ returns-in-UnitInt-clause-gone c = λ t over.
     (holding (shown c.args.shred.now) m (c.args.here.now + 1))
     (state_with t (shown c.args.shred.now).turns)
     c.line.begun (c.line.here + 1 - c.line.from) new
-    (state_with t (shown c.jump-in-UnitInt.new.shred).turns))
+    (state_with t (shown c.jump-in-UnitInt.new.self).turns))
     (to_z-of_z w64 c.args.first (search rules))
     (gone_on here t (over_kept here t over) new (units_on here t new n d v c.in-UnitInt.is gives
-    (c.jump-in-UnitInt.ensures ∙ ap (λ s. at_place s (c.line.here + 1)) c.in_ok-push-in-UnitInt.ensures)))
+    (placed_meant _ _ _ c.jump-in-UnitInt.ensures
+    ∙ ap (λ s. at_place s (c.line.here + 1)) (pushed_meant _ _ _ (c.in_ok-push-in-UnitInt.ensures {u = tt}).pushed))))
 
 -- the local that is set
 set_on : (c : After-step_in-at) (t : State) (new : Shown) (i : ℕ)
@@ -433,22 +439,23 @@ line-smaller-in-SetLocal-1 c =
     omega (
       arith,
       one_lower c.args.code.now _ _ _ _ (c.line.invariant.gone t c.line.invariant.over.1).over
-          (set_on here t (shown c.set_local.new.shred) c.in-SetLocal.i c.in-SetLocal.is
-          c.set_local.ensures.set c.set_local.ensures.kept) c.parts-parts.ensures.verified,
+          (set_on here t (shown c.set_local.new.self) c.in-SetLocal.i c.in-SetLocal.is
+          (set_meant _ _ _ _ _ c.set_local.ensures.new c.set_local.ensures.old)
+          (set_locals_meant _ _ _ _ _ c.set_local.ensures.new c.set_local.ensures.old)) c.parts-parts.ensures.verified,
     )
 
 pub line-preserved-in-SetLocal-1 : goal.line-preserved-in-SetLocal-1
 line-preserved-in-SetLocal-1 c =
     let here = (goal.at.line-preserved-in-SetLocal-1 c).After-step_in-at in
     let before = c.line.invariant in
-    let kept = c.set_local.ensures.kept in
+    let kept = set_locals_meant _ _ _ _ _ c.set_local.ensures.new c.set_local.ensures.old in
     record {
       steps = ap (λ (s : Shown). steps_of (slice_get c.args.code.now.funs s.top.fun)) kept
           ∙ before.steps;
       from = omega (arith, before.from);
       over = c.line.invariant.over;
-      gone = λ t over. gone_on here t over _ (set_on here t (shown c.set_local.new.shred) c.in-SetLocal.i c.in-SetLocal.is
-          c.set_local.ensures.set kept);
+      gone = λ t over. gone_on here t over _ (set_on here t (shown c.set_local.new.self) c.in-SetLocal.i c.in-SetLocal.is
+          (set_meant _ _ _ _ _ c.set_local.ensures.new c.set_local.ensures.old) kept);
       fun = same_fun _ _ (shown c.args.shred.now).top.fun c.line.moved (ap (λ (s : Shown). s.top.fun) kept) before.fun;
       same = record {
         number = ap (λ (s : Shown). s.number) kept ∙ before.same.number;
@@ -493,7 +500,7 @@ sum_on : (c : In-Some-added) (t : State) → let here = (goal.at.In-Some-added c
 sum_on c t =
     let n = c.in-Some-added.n in
     updated_on (goal.at.In-Some-added c).After-step_in-at t (shown c.added.new.shred) c.in-OpLocal.i
-    c.in-OpLocal.operator n _ c.in-OpLocal.is c.in-Some-added.ensures.sum c.added.ensures.kept
+    c.in-OpLocal.operator n _ c.in-OpLocal.is c.in-Some-added.ensures.sum (locals_meant _ _ c.added.ensures.kept)
     (sym (to_z-of_z w64 n (search rules)))
 
 pub line-smaller-in-OpLocal-1 : goal.line-smaller-in-OpLocal-1
@@ -509,7 +516,7 @@ pub line-preserved-in-OpLocal-1 : goal.line-preserved-in-OpLocal-1
 line-preserved-in-OpLocal-1 c =
     let here = (goal.at.line-preserved-in-OpLocal-1 c).In-Some-added in
     let before = c.line.invariant in
-    let kept = c.added.ensures.kept in
+    let kept = locals_meant _ _ c.added.ensures.kept in
     record {
       steps = ap (λ (s : Shown). steps_of (slice_get c.args.code.now.funs s.top.fun)) kept
           ∙ before.steps;
@@ -528,19 +535,20 @@ line-preserved-in-OpLocal-1 c =
 -- where a return goes, of the context that has it
 return_on : (c : After-counted_to-in-Return) (t : State) → let here = (goal.at.After-counted_to-in-Return c).After-step_in-at in
     LeadsTo c.args.code.now (now_of here) (state_now here t)
-    (holding (shown c.leave.new.shred) (held here) (shown c.leave.new.shred).top.place)
-    (state_with t (shown c.leave.new.shred).turns)
+    (holding (shown c.leave_function.new.shred) (held here) (shown c.leave_function.new.shred).top.place)
+    (state_with t (shown c.leave_function.new.shred).turns)
 return_on c t =
-    returned_on (goal.at.After-counted_to-in-Return c).After-step_in-at t (shown c.leave.new.shred)
-    c.in-Return.is c.if-not-leave.ensures.left c.leave.ensures.kept
+    returned_on (goal.at.After-counted_to-in-Return c).After-step_in-at t (shown c.leave_function.new.shred)
+    c.in-Return.is (beneath_meant _ _ (c.if-not-leave_function.ensures {u = tt}).left)
+    (left_meant _ _ c.leave_function.ensures.kept)
 
 pub steps_at-steps-requires : goal.steps_at-steps-requires
 steps_at-steps-requires c =
     let t = c.line.invariant.over.0 in
     let there = (goal.at.steps_at-steps-requires c).After-counted_to-in-Return in
     let here = (goal.at.After-counted_to-in-Return there).After-step_in-at in
-    let new = shown c.leave.new.shred in
-    rw (c.parts-parts.ensures.parts, c.fun.ensures)
+    let new = shown c.leave_function.new.shred in
+    rw (c.parts-parts.ensures.parts, (fun_meant _ _ c.fun.ensures))
     (has_function c.args.code.now (holding new (held here) new.top.place) _
     (gone_on here t c.line.invariant.over.1 _ (return_on there t)).over)
 
@@ -549,27 +557,27 @@ line-smaller-in-Return-1 c =
     let t = c.line.invariant.over.0 in
     let one = one_lower c.args.code.now _ _ _ _ (c.line.invariant.gone t c.line.invariant.over.1).over
     (return_on (goal.at.line-smaller-in-Return-1 c).After-counted_to-in-Return t) c.parts-parts.ensures.verified in
-    rw c.place.ensures (omega (arith, one))
+    rw (place_meant c.leave_function.new.shred _ c.place.ensures) (omega (arith, one))
 
 pub line-preserved-in-Return-1 : goal.line-preserved-in-Return-1
 line-preserved-in-Return-1 c =
     let there = (goal.at.line-preserved-in-Return-1 c).After-counted_to-in-Return in
     let here = (goal.at.After-counted_to-in-Return there).After-step_in-at in
     let before = c.line.invariant in
-    let new = shown c.leave.new.shred in
+    let new = shown c.leave_function.new.shred in
     let parts = c.parts-parts.result.now in
     let ran = c.counted_to-in-Return.result in
-    let kept = c.leave.ensures.kept in
+    let kept = left_meant _ _ c.leave_function.ensures.kept in
     let is : ran ≡ counted c.line.begun (c.line.here + 1 - c.line.from) =
     omega (arith, before.from, c.counted_to-in-Return.ensures) in
     record {
       steps = ap (λ parts. steps_of (slice_get parts.funs new.top.fun)) (sym c.parts-parts.ensures.parts)
-          ∙ ap (λ f. steps_of (slice_get parts.funs f)) (sym c.fun.ensures)
+          ∙ ap (λ f. steps_of (slice_get parts.funs f)) (sym (fun_meant _ _ c.fun.ensures))
           ∙ c.steps_at-steps.ensures;
       from = omega arith;
       over = c.line.invariant.over;
       gone = λ t over. subst (λ p. Gone here t ran (p - p) (holding new (held here) p) (state_with t new.turns))
-          (sym c.place.ensures)
+          (sym (place_meant _ _ c.place.ensures))
           (counted_on c.args.code.now c.parts-parts.ensures.verified _ _ _ _ _ _ _ new.top.place _ _ is
           (gone_on here t over _ (return_on there t)));
       fun = tt;
@@ -586,16 +594,16 @@ returns-in-Drop-clause-gone c = λ t over.
     let code = c.args.code.now in
     let place = c.step_in-at.result.now.place in
     let s = shown c.line.shred in
-    let new = shown c.jump-in-Drop.new.shred in
+    let new = shown c.jump-in-Drop.new.self in
     subst (λ m. HasGoneOn code c.args.begun.now (c.args.here.now + 1 - c.args.from.now)
     (holding (shown c.args.shred.now) m (c.args.here.now + 1))
     (state_with t (shown c.args.shred.now).turns)
     c.line.begun (c.line.here + 1 - c.line.from) new
-    (state_with t (shown c.jump-in-Drop.new.shred).turns)) (to_z-of_z w64 c.args.first (search rules))
-    (gone_on here t (over_kept here t over) new (leads here t new (ap (λ (s : Shown). s.number) c.jump-in-Drop.ensures)
+    (state_with t (shown c.jump-in-Drop.new.self).turns)) (to_z-of_z w64 c.args.first (search rules))
+    (gone_on here t (over_kept here t over) new (leads here t new (ap (λ (s : Shown). s.number) (placed_meant _ _ _ c.jump-in-Drop.ensures))
     (ap (λ instr. effect_in code instr place (now_of here) (state_now here t)) c.in-Drop.is
     ∙ drops code place s (state_now here t) (held here) c.line.here
-    ∙ ap (λ (s : Shown). Next (frames_of s) (state_with t s.turns)) (sym c.jump-in-Drop.ensures))))
+    ∙ ap (λ (s : Shown). Next (frames_of s) (state_with t s.turns)) (sym (placed_meant _ _ _ c.jump-in-Drop.ensures)))))
 
 pub step_in-at-requires : goal.step_in-at-requires
 step_in-at-requires c =

@@ -1,39 +1,52 @@
-use Rattle.std.proofs.Common.{ap, sym, ◌∙◌}
-use Rattle.ck_values.specs.Datum.{meant}
-use Rattle.ck_store.specs.Store.{IsFitting, Gives}
-use Rattle.ck_store.specs.Steps.{local_of, with_local}
-use Rattle.machine_world.specs.Shown.{locals_of, operands_of}
-use Rattle.machine_world.specs.Steps.{updated}
-use Rattle.machine_world.proofs.Picked.{looked_at}
-use Rattle.machine_world.proofs.Updates.{old_fits, operator_fits, put_fits}
-use Rattle.loop_steps.proofs.variables.update_any_local.Goals.{After-peek-operand}
+use Rattle.std.proofs.Common.{refl, arith}
+use Rattle.std.proofs.lemmas.Grind.{common_steps}
+use Rattle.machine_world.specs.Shown.{shown}
+use Rattle.machine_world.proofs.Numbered.{local_meant, set_local_meant}
+use Rattle.machine_world.proofs.Operands.{split_top}
+use Rattle.loop_steps.proofs.Updated.{local_there, local_operates}
 use Rattle.loop_steps.proofs.variables.update_any_local.Goals as goal
-
-update_fits : (c : After-peek-operand) → let locals = locals_of c.args.shred.now in
-    IsFitting (updated (local_of locals c.args.i) c.args.operator (with_local locals c.args.i) (meant c.peek-operand.result.now))
-update_fits c =
-    let locals = locals_of c.args.shred.now in
-    looked_at (updated (local_of locals c.args.i) c.args.operator (with_local locals c.args.i))
-    (operands_of c.args.shred.now) (meant c.peek-operand.result.now) c.peek-operand.ensures c.requires.operand
 
 pub local-requires : goal.local-requires
 local-requires c =
-    let locals = locals_of c.args.shred.now in
-    old_fits (local_of locals c.args.i) c.args.operator (with_local locals c.args.i)
-    (meant c.peek-operand.result.now) (update_fits (goal.at.local-requires c).After-peek-operand)
+    local_there _ _ _ c.args.i c.args.operator _ c.peek-operand.ensures c.requires.is
+    c.requires.can.can.can
 
 pub binary-requires : goal.binary-requires
 binary-requires c =
-    let locals = locals_of c.args.shred.now in
-    operator_fits (local_of locals c.args.i) c.args.operator (with_local locals c.args.i)
-    (meant c.peek-operand.result.now) (update_fits (goal.at.binary-requires c).After-peek-operand)
-    (meant c.local.result.now) c.local.ensures
+    local_operates _ _ _ c.args.i c.args.operator _ c.peek-operand.ensures c.requires.is
+    c.requires.can.can.can _ c.local.ensures
 
 pub set_local-requires : goal.set_local-requires
 set_local-requires c =
-    let locals = locals_of c.args.shred.now in
-    let v = meant c.in_ok-copied-in-Ok.field-0 in
-    put_fits (local_of locals c.args.i) c.args.operator (with_local locals c.args.i)
-    (meant c.peek-operand.result.now) (update_fits (goal.at.set_local-requires c).After-peek-operand)
-    (meant c.local.result.now) c.local.ensures v
-    (c.in-Ok.ensures.given ∙ ap (λ v. Gives (meant v)) (sym c.in_ok-copied-in-Ok.ensures))
+    local_there _ _ _ c.args.i c.args.operator _ c.peek-operand.ensures c.requires.is
+    c.requires.can.can.can
+
+pub returns-in_ok-copied-in-Ok : goal.returns-in_ok-copied-in-Ok
+unfolding shown
+returns-in_ok-copied-in-Ok c = record {
+  carries = λ world code acts. record {
+    follows = λ store stands.
+        let top = split_top c.args.shred.now.top.operands _ c.peek-operand.ensures in
+        let locals = c.args.shred.now.top.locals in
+        let was = local_meant locals c.args.i _ c.local.ensures in
+        let set = set_local_meant locals c.args.i _ c.in-Ok.v c.local.ensures in
+        record { store = store; stands = stands; so = grind (arith, common_steps, top, was, set) };
+    same = grind (arith, common_steps);
+    stays = grind (arith, common_steps);
+    ran = refl;
+  };
+}
+
+pub returns-in-Err-Trap : goal.returns-in-Err-Trap
+unfolding shown
+returns-in-Err-Trap c = record {
+  carries = λ world code acts. record {
+    follows = λ store stands.
+        let top = split_top c.args.shred.now.top.operands _ c.peek-operand.ensures in
+        let was = local_meant c.args.shred.now.top.locals c.args.i _ c.local.ensures in
+        record { store = store; stands = stands; so = grind (arith, common_steps, top, was) };
+    same = record { number = refl; parent = refl; last = refl };
+    stays = tt;
+    ran = refl;
+  };
+}
