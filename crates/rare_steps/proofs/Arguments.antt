@@ -1,22 +1,23 @@
 -- The operands of built-in calls.
-use Rattle.std.proofs.Common.{◌≡◌, ℕ, ℤ, zero, suc, pos, negsuc, Bool, true, false, ◌-◌, ◌%◌, ◌^◌, ◌<◌, ◌≤◌, List, [], ◌∷◌, unsigned_abs, refl, ap, ◌∙◌, arith}
+use Rattle.std.proofs.Common.{◌≡◌, ℕ, ℤ, zero, suc, pos, negsuc, Bool, true, false, ◌-◌, ◌%◌, ◌^◌, ◌<◌, ◌≤◌, List, []}
+use Rattle.std.proofs.Common.{◌∷◌, unsigned_abs, refl, ap, ◌∙◌, arith, FitsSigned}
 use Rattle.std.specs.Int.{w64, cast_signed, cast_unsigned}
-use Rattle.std.proofs.Common.{FitsSigned}
+use Rattle.ck_values.specs.declared.kind.Elem.{Elem}
+use Rattle.ck_values.specs.declared.operator.Op2.{Op2}
 use Rattle.ck_values.specs.declared.trap.Place.{Place}
-use Rattle.ck_values.specs.Datum.{Datum, AnInt, AFloat, ADur, AText}
+use Rattle.ck_values.specs.Datum.{Datum, AnInt, AFloat, ADur}
 use Rattle.ck_typed.specs.declared.native.Native.{Native}
-use Rattle.ck_typed.specs.declared.native.Native.TheVariants.{ShredId, Signal, Broadcast, Remove, Size, Clear, Length, CharAt, Substring, Abs, Fabs, Random2, Random2f, Srandom, SetAdsr}
+use Rattle.ck_typed.specs.declared.native.Native.TheVariants.{Size, Clear, SetAdsr}
 use Rattle.ck_store.specs.Store.{State, IsFitting}
 use Rattle.ck_store.specs.Steps.{and_then}
-use Rattle.ck_store.specs.Operators.{with_both, int_in, float_in, string_in, wrapped}
-use Rattle.ck_store.specs.Strings.{char_at, substring}
+use Rattle.ck_store.specs.Operators.{binary, wrapped}
 use Rattle.ck_store.specs.Natives.{native, operand_count}
-use Rattle.ck_store.specs.Arrays.{item_count, cleared}
+use Rattle.ck_store.specs.Arrays.{item_of, with_item, item_count, cleared, grid_made}
 use Rattle.ck_store.specs.Graph.{unit_keyed, unit_staged}
-use Rattle.ck_store.specs.Shreds.{event_of, shred_of, wait_event}
-use Rattle.ck_code.specs.Machine.{Frame, Taken, taken, calls_native, waits}
-use Rattle.rare_steps.specs.Keys.{key_call, key_where_call, is_on_at, keyed_where, staged_by}
-use Rattle.machine_world.specs.Steps.{IsGood, of_top, of_two, of_three, both_of, called}
+use Rattle.ck_code.specs.Machine.{Frame, Taken, taken, calls_native, updates_item, makes_grid}
+use Rattle.rare_steps.specs.Keys.{key_call, key_where_call}
+use Rattle.rare_steps.proofs.Keyed.{is_on_at, keyed_where, staged_by}
+use Rattle.machine_world.specs.Steps.{IsGood, of_top, of_two, of_three, updated, called}
 use Rattle.machine_world.proofs.Parts.{fits_first}
 use Rattle.machine_world.proofs.Sends.{good_fits}
 use Rattle.machine_world.proofs.Updates.{tried_fits}
@@ -30,50 +31,6 @@ native_calls place call f p l ops rest s good =
     (λ t good. good_fits (native call t.arguments s) place s _ good) good
 
 -- the operands of each call
-pub abs_takes : (ops : List Datum) (s : State) → IsFitting (called Abs ops s) → IsFitting (of_top ops int_in)
-unfolding native
-abs_takes [] s fits = fits
-abs_takes (AnInt n ∷ ops) s fits = tt
-abs_takes (v ∷ ops) s fits = fits
-
-pub fabs_takes : (ops : List Datum) (s : State) → IsFitting (called Fabs ops s)
-    → IsFitting (of_top ops float_in)
-unfolding native
-fabs_takes [] s fits = fits
-fabs_takes (AFloat x ∷ ops) s fits = tt
-fabs_takes (v ∷ ops) s fits = fits
-
-pub length_takes : (ops : List Datum) (s : State) → IsFitting (called Length ops s)
-    → IsFitting (of_top ops string_in)
-unfolding native
-length_takes [] s fits = fits
-length_takes (AText bytes ∷ ops) s fits = tt
-length_takes (v ∷ ops) s fits = fits
-
-pub char_at_takes : (ops : List Datum) (s : State) → IsFitting (called CharAt ops s)
-    → IsFitting (of_two ops (λ text index. with_both (string_in text) (int_in index) char_at))
-unfolding native
-char_at_takes [] s fits = fits
-char_at_takes (v ∷ []) s fits = fits
-char_at_takes (AnInt i ∷ AText bytes ∷ ops) s fits = fits_first (char_at bytes i) _ fits
-char_at_takes (AnInt i ∷ v ∷ ops) s fits = fits
-char_at_takes (v ∷ AText bytes ∷ ops) s fits = fits
-char_at_takes (v ∷ w ∷ ops) s fits = fits
-
-pub substring_takes : (ops : List Datum) (s : State) → IsFitting (called Substring ops s)
-    → IsFitting (of_three ops (λ text start count.
-    and_then (string_in text) (λ bytes. with_both (int_in start) (int_in count) (substring bytes))))
-unfolding native
-substring_takes [] s fits = fits
-substring_takes (v ∷ []) s fits = fits
-substring_takes (v ∷ w ∷ []) s fits = fits
-substring_takes (AnInt count ∷ AnInt start ∷ AText bytes ∷ ops) s fits =
-    fits_first (substring bytes start count) _ fits
-substring_takes (AnInt count ∷ v ∷ AText bytes ∷ ops) s fits = fits
-substring_takes (v ∷ AnInt start ∷ AText bytes ∷ ops) s fits = fits
-substring_takes (v ∷ w ∷ AText bytes ∷ ops) s fits = fits
-substring_takes (v ∷ w ∷ x ∷ ops) s fits = fits
-
 pub size_takes : (ops : List Datum) (s : State) → IsFitting (called Size ops s)
     → IsFitting (of_top ops (item_count s.store.objects))
 unfolding native
@@ -85,56 +42,6 @@ pub clear_takes : (ops : List Datum) (s : State) → IsFitting (called Clear ops
 unfolding native
 clear_takes [] s fits = fits
 clear_takes (r ∷ ops) s fits = fits_first (cleared s.store r) _ fits
-
-pub id_takes : (ops : List Datum) (s : State) → IsFitting (called ShredId ops s)
-    → IsFitting (of_top ops shred_of)
-unfolding native
-id_takes [] s fits = fits
-id_takes (v ∷ ops) s fits = fits_first (shred_of v) _ fits
-
-pub signal_takes : (ops : List Datum) (s : State) → IsFitting (called Signal ops s)
-    → IsFitting (of_top ops event_of)
-unfolding native
-signal_takes [] s fits = fits
-signal_takes (v ∷ ops) s fits = fits_first (event_of v) _ fits
-
-pub broadcast_takes : (ops : List Datum) (s : State) → IsFitting (called Broadcast ops s)
-    → IsFitting (of_top ops event_of)
-unfolding native
-broadcast_takes [] s fits = fits
-broadcast_takes (v ∷ ops) s fits = fits_first (event_of v) _ fits
-
-pub remove_takes : (ops : List Datum) (s : State) → IsFitting (called Remove ops s)
-    → IsFitting (of_top ops int_in)
-unfolding native
-remove_takes [] s fits = fits
-remove_takes (AnInt n ∷ ops) s fits = tt
-remove_takes (v ∷ ops) s fits = fits
-
-pub random_takes : (ops : List Datum) (s : State) → IsFitting (called Random2 ops s)
-    → IsFitting (both_of int_in ops)
-unfolding native
-random_takes [] s fits = fits
-random_takes (v ∷ []) s fits = fits
-random_takes (AnInt b ∷ AnInt a ∷ ops) s fits = tt
-random_takes (v ∷ AnInt a ∷ ops) s fits = fits
-random_takes (v ∷ w ∷ ops) s fits = fits
-
-pub random_fix_takes : (ops : List Datum) (s : State) → IsFitting (called Random2f ops s)
-    → IsFitting (both_of float_in ops)
-unfolding native
-random_fix_takes [] s fits = fits
-random_fix_takes (v ∷ []) s fits = fits
-random_fix_takes (AFloat b ∷ AFloat a ∷ ops) s fits = tt
-random_fix_takes (v ∷ AFloat a ∷ ops) s fits = fits
-random_fix_takes (v ∷ w ∷ ops) s fits = fits
-
-pub seed_takes : (ops : List Datum) (s : State) → IsFitting (called Srandom ops s)
-    → IsFitting (of_top ops int_in)
-unfolding native
-seed_takes [] s fits = fits
-seed_takes (AnInt n ∷ ops) s fits = tt
-seed_takes (v ∷ ops) s fits = fits
 
 pub key_takes : (is_on : Bool) (ops : List Datum) (s : State)
     → IsFitting (called (key_call is_on) ops s)
@@ -175,14 +82,27 @@ stages_takes (r ∷ l ∷ ADur d ∷ ADur a ∷ u ∷ ops) s fits = fits
 stages_takes (r ∷ l ∷ d ∷ ADur a ∷ u ∷ ops) s fits = fits
 stages_takes (r ∷ l ∷ d ∷ a ∷ u ∷ ops) s fits = fits
 
--- the operand of a wait for an event
-pub event_waits : (place : Place) (f p : ℕ) (l ops : List Datum) (rest : List Frame) (s : State)
-    → IsGood (waits place (λ event store. wait_event event) f p l ops rest s)
-    → IsFitting (of_top ops event_of)
-unfolding wait_event
-event_waits place f p l [] rest s good = absurd good
-event_waits place f p l (v ∷ ops) rest s good =
-    fits_first (event_of v) _ (good_fits (wait_event v) place s _ good)
+-- the operands of an update of an item, and of an array of arrays
+pub item_updates : (place : Place) (o : Op2) (f p : ℕ) (l ops : List Datum) (rest : List Frame)
+    (s : State) → IsGood (updates_item place o f p l ops rest s)
+    → IsFitting (of_three ops (λ e r i.
+    updated (item_of s.store.objects r i) o (with_item s.store r i) e))
+item_updates place o f p l [] rest s good = absurd good
+item_updates place o f p l (i ∷ []) rest s good = absurd good
+item_updates place o f p l (i ∷ r ∷ []) rest s good = absurd good
+item_updates place o f p l (i ∷ r ∷ e ∷ beneath) rest s good =
+    tried_fits (item_of s.store.objects r i) place s _
+    (λ v. and_then (binary o v e) (with_item s.store r i)) (λ v good.
+    tried_fits (binary o v e) place s _ (with_item s.store r i) (λ w good.
+    good_fits (with_item s.store r i w) place s _ good) good) good
+
+pub grid_finds : (place : Place) (e : Elem) (f p : ℕ) (l ops : List Datum) (rest : List Frame)
+    (s : State) → IsGood (makes_grid place e f p l ops rest s)
+    → IsFitting (of_two ops (λ n m. (grid_made e n m s.store).end))
+grid_finds place e f p l [] rest s good = absurd good
+grid_finds place e f p l (m ∷ []) rest s good = absurd good
+grid_finds place e f p l (m ∷ n ∷ beneath) rest s good =
+    good_fits (grid_made e n m s.store).end place _ _ good
 
 -- an int without its sign
 magnitude_fits : (a : ℤ) → FitsSigned w64 a → unsigned_abs a ≤ 2 ^ 63
@@ -203,7 +123,3 @@ wrapping_magnitude a fits = wrapped_magnitude (unsigned_abs a) (magnitude_fits a
 -- a number of a shred as an int
 pub wrapped_number : (n : ℕ) → n < 2 ^ 64 → cast_signed w64 n ≡ wrapped (pos n)
 wrapped_number n small = recast (pos n) small
-
-pub ruleset calls = (wrapping_magnitude)
-
-pub ruleset numbers = (wrapped_number)

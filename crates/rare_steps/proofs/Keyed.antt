@@ -1,20 +1,44 @@
 -- What the calls on envelopes take and do.
-use Rattle.std.proofs.Common.{◌≡◌, ℕ, ℤ, Bool, true, false, List, ◌∷◌, refl}
+use Rattle.std.proofs.Common.{◌≡◌, ℕ, ℤ, pos, Bool, true, false, not, List, ◌∷◌, refl}
+use Rattle.std.specs.Ordering.{int_eq}
 use Rattle.ck_values.specs.declared.trap.Place.{Place}
 use Rattle.ck_values.specs.Datum.{Datum, AnInt, AFloat, ADur}
 use Rattle.ck_typed.specs.declared.native.Native.TheVariants.{SetAdsr}
 use Rattle.ugen_kinds.specs.Generator.{keyed, staged}
-use Rattle.ck_store.specs.Store.{Store, State, IsFitting}
+use Rattle.ck_store.specs.Store.{Store, State, Try, Misfit, IsFitting}
+use Rattle.ck_store.specs.Steps.{and_then}
 use Rattle.ck_store.specs.Graph.{place_at, unit_keyed, unit_staged}
+use Rattle.ck_store.specs.Operators.{int_in, float_in, dur_in}
 use Rattle.ck_store.specs.Natives.{native, leaving}
 use Rattle.ck_code.specs.Machine.{Frame, tried, pushes, calls_native}
 use Rattle.machine_world.proofs.Located.{change_first}
-use Rattle.rare_steps.specs.Keys.{key_call, key_where_call, is_on_at, keyed_where, staged_by}
+use Rattle.rare_steps.specs.Keys.{key_call, key_where_call}
+
+-- whether a key is pressed by a call with an int: where it isn't 0, or the other way round
+abbrev pub is_on_at : (is_on : Bool) → ℤ → Bool
+is_on_at true n = not (int_eq n (pos 0))
+is_on_at false n = int_eq n (pos 0)
+
+abbrev pub keyed_where : (is_on : Bool) → (unit number : Datum) → Store → Try Store
+keyed_where is_on u n store = and_then (int_in n) (λ k. unit_keyed (is_on_at is_on k) u store)
+
+-- an ADSR beneath four operands is given them as its stages
+abbrev pub staged_by : (operands : List Datum) → Store → Try Store
+staged_by (r ∷ level ∷ d ∷ a ∷ u ∷ beneath) store =
+    and_then (dur_in a) (λ attack. and_then (dur_in d) (λ decay. and_then (float_in level)
+    (λ sustain. and_then (dur_in r) (λ release.
+    unit_staged attack decay sustain release u store))))
+staged_by _ store = Misfit
 
 pub keyed_first : (is_on : Bool) (store : Store) (u n : Datum)
     → IsFitting (keyed_where is_on u n store) → IsFitting (place_at store.objects u)
 keyed_first is_on store u (AnInt k) fits = change_first (keyed (is_on_at is_on k)) store u fits
 keyed_first is_on store u _ fits = absurd fits
+
+pub keyed_int : (is_on : Bool) (store : Store) (u n : Datum)
+    → IsFitting (keyed_where is_on u n store) → IsFitting (int_in n)
+keyed_int is_on store u (AnInt k) fits = tt
+keyed_int is_on store u _ fits = absurd fits
 
 pub staged_first : (r level d a u : Datum) (beneath : List Datum) (store : Store)
     → IsFitting (staged_by (r ∷ level ∷ d ∷ a ∷ u ∷ beneath) store)

@@ -3,5 +3,6 @@ pub mod Lines
 pub mod Printed
 pub mod Gathered
 pub mod Sporked
-pub mod Left
 pub mod Keyed
+pub mod Found
+pub mod Carried

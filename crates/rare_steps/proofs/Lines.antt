@@ -1,6 +1,7 @@
 -- Lines of prints, and the operands that they take.
-use Rattle.std.proofs.Common.{◌≡◌, ℕ, suc, false, ◌-◌, ◌<◌, List, [], ◌∷◌, ◌++◌, length, take, reverse, Some, slice_get, refl, ap, sym, ◌∙◌, arith, append_assoc}
-use Rattle.std.proofs.lemmas.List.{reverse-append, length-reverse, length-take-le}
+use Rattle.std.proofs.Common.{◌≡◌, ℕ, suc, false, ◌-◌, ◌<◌, ◌≤◌, List, [], ◌∷◌, ◌++◌, length, take, reverse, Some}
+use Rattle.std.proofs.Common.{slice_get, refl, ap, sym, subst, ◌∙◌, arith, append_assoc}
+use Rattle.std.proofs.lemmas.List.{append-nil as append_nil, reverse-append, length-reverse, length-take-le}
 use Rattle.std.proofs.lemmas.Option.{slice_get_within}
 use Rattle.ck_values.specs.Datum.{Datum}
 use Rattle.ck_store.specs.Prints.{spaced}
@@ -44,3 +45,19 @@ items_step whole before shown1 after ops left v some more is so is_shown is_afte
     ∙ ap (λ xs. xs ++ 32 ∷ rest) (sym is_shown)
     ∙ sym (append_assoc shown1 (32 ∷ []) rest)
     ∙ ap (λ xs. xs ++ rest) (sym is_after)
+
+-- the last item is added
+pub items_end : (whole before after : List ℕ) (ops : List Datum) (left : ℕ) (v : Datum)
+    → 0 < left → left - 1 ≤ 0 → slice_get ops (left - 1) ≡ Some v
+    → whole ≡ before ++ spaced (items_of left ops) → after ≡ before ++ printed false v
+    → whole ≡ after ++ spaced (items_of (left - 1) ops)
+items_end whole before after ops left v some last is so is_after =
+    let one : left ≡ 1 = omega arith in
+    let none : left - 1 ≡ 0 = omega arith in
+    so
+    ∙ ap (λ n. before ++ spaced (items_of n ops)) one
+    ∙ ap (λ vs. before ++ spaced vs)
+    (items_suc 0 ops v (subst (λ n. slice_get ops n ≡ Some v) none is))
+    ∙ sym is_after
+    ∙ sym (append_nil after)
+    ∙ ap (λ n. after ++ spaced (items_of n ops)) (sym none)

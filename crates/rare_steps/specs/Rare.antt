@@ -1,6 +1,14 @@
 -- The instructions that loops and calls are seldom made of.
+use Rattle.std.specs.Prelude.{ℕ, Bool, true, false}
+use Rattle.ck_values.specs.declared.kind.Elem.{Elem}
 use Rattle.ck_code.specs.declared.instr.Instr.{Instr}
-use Rattle.ck_code.specs.declared.instr.Instr.TheVariants.{Int, Float, Dur, Time, Now, Local, Static, SetLocal, OpLocal, SetStatic, OpStatic, Field, SetField, Item, SetItem, Append, Dup, Drop, Op1 as OnOne, Op2 as OnTwo, UnitInt, Jump, JumpZero, Turn, Call, Virtual, Return, WaitDur, WaitTime, WaitEvent, Yield, Exit, Spork, SporkVirtual, New, Ugen, Row, Grid, Lit, LitGrid, Native, Print}
+use Rattle.ck_code.specs.declared.instr.Instr.TheVariants.{Int, Float, Dur, Time, Now, Local, Static, SetLocal}
+use Rattle.ck_code.specs.declared.instr.Instr.TheVariants.{OpLocal, SetStatic, OpStatic, Field, SetField, Item}
+use Rattle.ck_code.specs.declared.instr.Instr.TheVariants.{SetItem, Append, Dup, Drop, Op1 as OnOne, Op2 as OnTwo}
+use Rattle.ck_code.specs.declared.instr.Instr.TheVariants.{UnitInt, Jump, JumpZero, Turn, Call, Virtual, Return}
+use Rattle.ck_code.specs.declared.instr.Instr.TheVariants.{WaitDur, WaitTime, WaitEvent, Yield, Exit, Spork}
+use Rattle.ck_code.specs.declared.instr.Instr.TheVariants.{SporkVirtual, New, Ugen, Row, Grid, Lit, LitGrid, Native}
+use Rattle.ck_code.specs.declared.instr.Instr.TheVariants.{Print}
 
 -- loops and calls aren't made of it
 abbrev pub IsRare : Instr → Type 0
@@ -51,3 +59,8 @@ IsDeed (LitGrid elem n) = Unit {0}
 IsDeed (Native call) = Unit {0}
 IsDeed (Print kinds) = Unit {0}
 IsDeed _ = ⊥
+
+-- an array of so many operands, or of as many arrays
+abbrev pub literal : Elem → (of_arrays : Bool) → ℕ → Instr
+literal elem false n = Lit elem n
+literal elem true n = LitGrid elem n

@@ -1,10 +1,6 @@
 //! The instructions that aren't carried out within the loop.
-ghost use Rattle.std.specs.Prelude.{◌≡◌, ◌-◌, ◌^◌, ◌<◌, IfOk, OnOk};
-ghost use Rattle.ck_store.specs.Store.{Store};
-ghost use Rattle.machine_world.specs.Shown.{next_place};
-ghost use Rattle.machine_world.specs.Steps.{effect_on, IsGood, IsRunnable, Follows, Stays, IsSame};
-ghost use Rattle.machine_world.specs.Tries.{HasStore};
-ghost use Rattle.machine_world.specs.Worlds.{StandsFor};
+ghost use Rattle.std.specs.Prelude.{IfOk};
+ghost use Rattle.machine_world.specs.Scenes.{scene, CanRun, Carries};
 ghost use Rattle.rare_steps.specs.Rare.{IsRare, IsDeed};
 
 use crate::arrays::{fill, pass_items, update_item};
@@ -37,16 +33,9 @@ pub fn rare_step(
     acts: &mut Acts,
 ) -> Result<Then, Memory>
     requires rare { IsRare at.now.instr }
-    requires good { HasStore world.old
-        (λ store. IsGood (effect_on code.now at.now shred.old store acts.old)) }
-    requires runs { IsRunnable at.now.instr }
-    requires place { next_place shred.old < 2 ^ 64 - 1 }
-    ensures follows { (store : Store) → StandsFor world.old store →
-        let effect = effect_on code.now at.now shred.old store acts.old in
-        IfOk result (λ then. Follows then effect at.now.place shred.new world.new acts.new) }
-    ensures same { OnOk result (IsSame shred.old shred.new) }
-    ensures stays { IfOk result (λ then. Stays then shred.old shred.new) }
-    ensures ran { OnOk result (world.new.ran ≡ world.old.ran) }
+    requires can { CanRun code.now at.now (scene shred.old world.old acts.old) }
+    ensures carries { IfOk result (λ then. Carries code.now at.now then
+        (scene shred.old world.old acts.old) (scene shred.new world.new acts.new)) }
 {
     match carry_out(alloc, code, at, shred, world, acts)? {
         Then::GoesOn => Ok(Then::GoesOn),
@@ -56,6 +45,7 @@ pub fn rare_step(
 }
 
 // The same, out of the loop.
+#[tactic(auto, using(crate::proofs::Carried::arms), unfolding(machine_world::specs::Shown::shown))]
 #[inline(never)]
 fn carry_out(
     alloc: Global,
@@ -66,16 +56,9 @@ fn carry_out(
     acts: &mut Acts,
 ) -> Result<Then, Memory>
     requires rare { IsRare at.now.instr }
-    requires good { HasStore world.old
-        (λ store. IsGood (effect_on code.now at.now shred.old store acts.old)) }
-    requires runs { IsRunnable at.now.instr }
-    requires place { next_place shred.old < 2 ^ 64 - 1 }
-    ensures follows { (store : Store) → StandsFor world.old store →
-        let effect = effect_on code.now at.now shred.old store acts.old in
-        IfOk result (λ then. Follows then effect at.now.place shred.new world.new acts.new) }
-    ensures same { OnOk result (IsSame shred.old shred.new) }
-    ensures stays { IfOk result (λ then. Stays then shred.old shred.new) }
-    ensures ran { OnOk result (world.new.ran ≡ world.old.ran) }
+    requires can { CanRun code.now at.now (scene shred.old world.old acts.old) }
+    ensures carries { IfOk result (λ then. Carries code.now at.now then
+        (scene shred.old world.old acts.old) (scene shred.new world.new acts.new)) }
 {
     match &at.instr {
         Instr::Text(k) => put_text(alloc, code, shred, *k),
@@ -84,21 +67,22 @@ fn carry_out(
         Instr::Me => put_me(shred),
         Instr::Dac => put_dac(shred),
         Instr::Hole => put_hole(shred),
-        Instr::OpField(i, operator) => update_field(alloc, shred, world, *i, *operator, at.place),
-        Instr::OpItem(operator) => update_item(alloc, shred, world, *operator, at.place),
-        Instr::Swap => exchange(shred),
+        Instr::OpField(i, operator) => update_field(alloc, at, shred, world, *i, *operator),
+        Instr::OpItem(operator) => update_item(alloc, at, shred, world, *operator),
+        Instr::Swap => exchange(at, shred),
         Instr::UnitFix(numerator, denominator) => put_fix_units(shred, *numerator, *denominator),
-        Instr::Each(to) => pass_items(shred, world, *to, at.place),
-        Instr::Fill => fill(shred, world, at.place),
-        Instr::Connect => connect(shred, world, at.place),
-        Instr::Disconnect => disconnect(shred, world, at.place),
-        Instr::Param(p) => put_parameter(shred, world, *p, at.place),
-        Instr::SetParam(p) => set_parameter(alloc, shred, world, *p, at.place),
+        Instr::Each(to) => pass_items(at, shred, world, *to),
+        Instr::Fill => fill(at, shred, world),
+        Instr::Connect => connect(at, shred, world),
+        Instr::Disconnect => disconnect(at, shred, world),
+        Instr::Param(p) => put_parameter(at, shred, world, *p),
+        Instr::SetParam(p) => set_parameter(alloc, at, shred, world, *p),
         _ => carry_out_deed(alloc, code, at, shred, world, acts),
     }
 }
 
 // The same, where it makes an object, sporks, waits, prints or calls what is built in.
+#[tactic(auto, using(crate::proofs::Carried::arms), unfolding(machine_world::specs::Shown::shown))]
 #[inline(always)]
 fn carry_out_deed(
     alloc: Global,
@@ -109,34 +93,27 @@ fn carry_out_deed(
     acts: &mut Acts,
 ) -> Result<Then, Memory>
     requires deed { IsDeed at.now.instr }
-    requires good { HasStore world.old
-        (λ store. IsGood (effect_on code.now at.now shred.old store acts.old)) }
-    requires runs { IsRunnable at.now.instr }
-    requires place { next_place shred.old < 2 ^ 64 - 1 }
-    ensures follows { (store : Store) → StandsFor world.old store →
-        let effect = effect_on code.now at.now shred.old store acts.old in
-        IfOk result (λ then. Follows then effect at.now.place shred.new world.new acts.new) }
-    ensures same { OnOk result (IsSame shred.old shred.new) }
-    ensures stays { IfOk result (λ then. Stays then shred.old shred.new) }
-    ensures ran { OnOk result (world.new.ran ≡ world.old.ran) }
+    requires can { CanRun code.now at.now (scene shred.old world.old acts.old) }
+    ensures carries { IfOk result (λ then. Carries code.now at.now then
+        (scene shred.old world.old acts.old) (scene shred.new world.new acts.new)) }
 {
     match &at.instr {
-        Instr::WaitTime => Ok(wait_until(shred, world, at.place)),
-        Instr::WaitEvent => Ok(wait_for_event(shred, at.place)),
-        Instr::Yield => Ok(yield_now(shred, world)),
+        Instr::WaitTime => Ok(wait_until(at, shred, world)),
+        Instr::WaitEvent => Ok(wait_for_event(at, shred)),
+        Instr::Yield => Ok(yield_now(at, shred, world)),
         Instr::Exit => Ok(Then::Stopped(Stop::Ended)),
-        Instr::Spork(fun) => spork(alloc, code, shred, world, acts, *fun, at.place),
+        Instr::Spork(fun) => spork(alloc, code, at, shred, world, acts, *fun),
         Instr::SporkVirtual(slot, n) => {
-            spork_virtual(alloc, code, shred, world, acts, *slot, *n, at.place)
+            spork_virtual(alloc, code, at, shred, world, acts, *slot, *n)
         }
-        Instr::New(class) => make(alloc, code, shred, world, *class, at.place),
-        Instr::Ugen(kind) => make_unit(alloc, shred, world, *kind, at.place),
-        Instr::Row(elem) => make_row(alloc, shred, world, *elem, at.place),
-        Instr::Grid(elem) => make_grid(alloc, shred, world, *elem, at.place),
-        Instr::Lit(elem, n) => make_array(alloc, shred, world, *elem, false, *n, at.place),
-        Instr::LitGrid(elem, n) => make_array(alloc, shred, world, *elem, true, *n, at.place),
-        Instr::Native(call) => call_native(alloc, shred, world, acts, *call, at.place),
-        Instr::Print(kinds) => print(alloc, code, shred, acts, kinds.items()),
+        Instr::New(class) => make(alloc, code, at, shred, world, *class),
+        Instr::Ugen(kind) => make_unit(alloc, at, shred, world, *kind),
+        Instr::Row(elem) => make_row(alloc, at, shred, world, *elem),
+        Instr::Grid(elem) => make_grid(alloc, at, shred, world, *elem),
+        Instr::Lit(elem, n) => make_array(alloc, at, shred, world, *elem, false, *n),
+        Instr::LitGrid(elem, n) => make_array(alloc, at, shred, world, *elem, true, *n),
+        Instr::Native(call) => call_native(alloc, at, shred, world, acts, *call),
+        Instr::Print(kinds) => print(alloc, code, at, shred, acts, kinds.items()),
         // No other instruction is one of these.
         _ => unreachable!(),
     }

@@ -1,18 +1,18 @@
 //! Events: waits for them, and calls that wake those who wait.
-ghost use Rattle.std.specs.Prelude.{◌≡◌, ◌-◌, ◌^◌, ◌<◌, List, MatchResult, IfOk, OnOk};
+ghost use Rattle.std.specs.Prelude.{◌≡◌, MatchResult, IfOk};
 ghost use Rattle.ck_values.specs.Datum.{meant};
 ghost use Rattle.ck_code.specs.declared.code.CodeParts.{CodeParts};
 ghost use Rattle.ck_code.specs.declared.instr.Instr.TheVariants.{WaitEvent, Native as BuiltIn};
 ghost use Rattle.ck_store.specs.Shreds.{event_of};
-ghost use Rattle.ck_store.specs.Store.{Store, Gives, Fails, IsFitting};
+ghost use Rattle.ck_store.specs.Store.{Gives, Fails, IsFitting};
 ghost use Rattle.ck_typed.specs.declared.native.Native.TheVariants.{Signal, Broadcast};
-ghost use Rattle.machine_world.specs.declared.acts.Act.{Act as Recorded};
-ghost use Rattle.machine_world.specs.Shown.{operands_of, next_place};
-ghost use Rattle.machine_world.specs.Steps.{effect_of, of_top, Matches, Stays, IsSame};
+ghost use Rattle.machine_world.specs.Scenes.{scene, CanRunAlone, Carries, CarriesAlone};
+ghost use Rattle.machine_world.specs.Worlds.{Parts};
 
-use ck_values::{Place, Ref, Trap, Value};
+use ck_code::Step;
+use ck_values::{Ref, Trap, Value};
 use fixed_point::Memory;
-use machine_world::{Act, Acts, Stop, Then, frames, put};
+use machine_world::{Act, Acts, Stop, Then, put};
 use shred_state::Shred;
 
 // The event that a value refers to; null is a trap.
@@ -35,61 +35,51 @@ fn event(v: &Value) -> Result<Ref, Trap>
 }
 
 /// Waits for the event on the top; null is a trap.
-#[tactic(auto, unfolding(ck_store::specs::Shreds::wait_event))]
-pub(crate) fn wait_for_event(shred: &mut Shred, place: Place) -> Then
-    requires operand { IsFitting (of_top (operands_of shred.old) event_of) }
-    requires place { next_place shred.old < 2 ^ 64 - 1 }
-    ensures follows { (code : CodeParts) (store : Store) (acts : List Recorded) →
-        let effect = effect_of code WaitEvent place shred.old store acts in
-        Matches result effect place shred.new store acts }
-    ensures same { IsSame shred.old shred.new }
-    ensures stays { Stays result shred.old shred.new }
+#[tactic(auto, unfolding(ck_store::specs::Shreds::wait_event, machine_world::specs::Shown::shown))]
+pub(crate) fn wait_for_event(at: &Step, shred: &mut Shred) -> Then
+    requires is { at.now.instr ≡ WaitEvent }
+    requires can { CanRunAlone at.now shred.old }
+    ensures carries { CarriesAlone at.now result shred.old shred.new }
 {
-    match event(&frames::pop(shred)) {
+    match event(&shred.pop()) {
         Ok(event) => {
-            frames::go_on(shred);
+            shred.go_on();
             Then::Stopped(Stop::On(event))
         }
-        Err(trap) => Then::Stopped(Stop::Trapped(trap, place)),
+        Err(trap) => Then::Stopped(Stop::Trapped(trap, at.place)),
     }
 }
 
 /// Wakes the shred that waits longest for an event, in whose place the int 0 comes; null is a trap.
-#[tactic(auto, unfolding(ck_store::specs::Natives::native))]
-pub(crate) fn signal(shred: &mut Shred, acts: &mut Acts, place: Place) -> Result<Then, Memory>
-    requires operand { IsFitting (of_top (operands_of shred.old) event_of) }
-    requires place { next_place shred.old < 2 ^ 64 - 1 }
-    ensures follows { (code : CodeParts) (store : Store) →
-        let effect = effect_of code (BuiltIn Signal) place shred.old store acts.old in
-        IfOk result (λ then. Matches then effect place shred.new store acts.new) }
-    ensures same { OnOk result (IsSame shred.old shred.new) }
-    ensures stays { IfOk result (λ then. Stays then shred.old shred.new) }
+#[tactic(auto, unfolding(ck_store::specs::Natives::native, machine_world::specs::Shown::shown))]
+pub(crate) fn signal(at: &Step, shred: &mut Shred, acts: &mut Acts) -> Result<Then, Memory>
+    requires is { at.now.instr ≡ BuiltIn Signal }
+    requires can { CanRunAlone at.now shred.old }
+    ensures carries { (code : CodeParts) (world : Parts) → IfOk result (λ then. Carries code at.now
+        then (scene shred.old world acts.old) (scene shred.new world acts.new)) }
 {
-    match event(&frames::pop(shred)) {
+    match event(&shred.pop()) {
         Ok(event) => {
             acts.push(Act::WakeOne(event))?;
             put(shred, Value::Int(0))
         }
-        Err(trap) => Ok(Then::Stopped(Stop::Trapped(trap, place))),
+        Err(trap) => Ok(Then::Stopped(Stop::Trapped(trap, at.place))),
     }
 }
 
 /// Wakes all shreds that wait for an event, in whose place the int 0 comes; null is a trap.
-#[tactic(auto, unfolding(ck_store::specs::Natives::native))]
-pub(crate) fn broadcast(shred: &mut Shred, acts: &mut Acts, place: Place) -> Result<Then, Memory>
-    requires operand { IsFitting (of_top (operands_of shred.old) event_of) }
-    requires place { next_place shred.old < 2 ^ 64 - 1 }
-    ensures follows { (code : CodeParts) (store : Store) →
-        let effect = effect_of code (BuiltIn Broadcast) place shred.old store acts.old in
-        IfOk result (λ then. Matches then effect place shred.new store acts.new) }
-    ensures same { OnOk result (IsSame shred.old shred.new) }
-    ensures stays { IfOk result (λ then. Stays then shred.old shred.new) }
+#[tactic(auto, unfolding(ck_store::specs::Natives::native, machine_world::specs::Shown::shown))]
+pub(crate) fn broadcast(at: &Step, shred: &mut Shred, acts: &mut Acts) -> Result<Then, Memory>
+    requires is { at.now.instr ≡ BuiltIn Broadcast }
+    requires can { CanRunAlone at.now shred.old }
+    ensures carries { (code : CodeParts) (world : Parts) → IfOk result (λ then. Carries code at.now
+        then (scene shred.old world acts.old) (scene shred.new world acts.new)) }
 {
-    match event(&frames::pop(shred)) {
+    match event(&shred.pop()) {
         Ok(event) => {
             acts.push(Act::WakeAll(event))?;
             put(shred, Value::Int(0))
         }
-        Err(trap) => Ok(Then::Stopped(Stop::Trapped(trap, place))),
+        Err(trap) => Ok(Then::Stopped(Stop::Trapped(trap, at.place))),
     }
 }

@@ -1,98 +1,75 @@
 //! The calls on envelopes.
-ghost use Rattle.std.specs.Prelude.{◌≡◌, List, ◌-◌, ◌^◌, ◌<◌, IfOk, OnOk};
-ghost use Rattle.ck_code.specs.declared.code.CodeParts.{CodeParts};
+ghost use Rattle.std.specs.Prelude.{◌≡◌, IfOk};
 ghost use Rattle.ck_code.specs.declared.instr.Instr.TheVariants.{Native as BuiltIn};
-ghost use Rattle.ck_store.specs.Graph.{unit_keyed};
-ghost use Rattle.ck_store.specs.Store.{Store};
 ghost use Rattle.ck_typed.specs.declared.native.Native.TheVariants.{SetAdsr};
-ghost use Rattle.machine_world.specs.declared.acts.Act.{Act};
-ghost use Rattle.rare_steps.specs.Keys.{key_call, key_where_call, keyed_where, staged_by};
-ghost use Rattle.machine_world.specs.Shown.{operands_of, next_place};
-ghost use Rattle.machine_world.specs.Steps.{effect_of, of_top, of_two, Follows, Stays, IsSame};
-ghost use Rattle.machine_world.specs.Tries.{CanDo};
-ghost use Rattle.machine_world.specs.Worlds.{StandsFor};
+ghost use Rattle.machine_world.specs.Scenes.{CanRunIn, CarriesIn};
+ghost use Rattle.rare_steps.specs.Keys.{key_call, key_where_call};
 
-use ck_values::{Place, Value};
+use ck_code::Step;
+use ck_values::Value;
 use fixed_point::Memory;
-use machine_world::{Stop, Then, World, dur, float, frames, int, put, reference};
+use machine_world::{Stop, Then, World, dur, float, int, put, reference};
 use shred_state::Shred;
 
 /// Presses the key of the envelope on the top, or lets it go; the int 0 comes in its place, and null
 /// is a trap.
-#[tactic(auto, using(crate::proofs::Keyed::key_called))]
+#[tactic(auto, using(crate::proofs::Keyed::key_called), unfolding(machine_world::specs::Shown::shown))]
 pub(crate) fn key(
+    at: &Step,
     shred: &mut Shred,
     world: &mut World,
     is_on: bool,
-    place: Place,
 ) -> Result<Then, Memory>
-    requires operand { CanDo world.old
-        (λ store. of_top (operands_of shred.old) (λ u. unit_keyed is_on u store)) }
-    requires place { next_place shred.old < 2 ^ 64 - 1 }
-    ensures follows { (code : CodeParts) (acts : List Act) (store : Store) →
-        StandsFor world.old store →
-        let effect = effect_of code (BuiltIn (key_call is_on)) place shred.old store acts in
-        IfOk result (λ then. Follows then effect place shred.new world.new acts) }
-    ensures same { OnOk result (IsSame shred.old shred.new) }
-    ensures stays { IfOk result (λ then. Stays then shred.old shred.new) }
-    ensures ran { OnOk result (world.new.ran ≡ world.old.ran) }
+    requires is { at.now.instr ≡ BuiltIn (key_call is_on) }
+    requires can { CanRunIn world.old at.now shred.old }
+    ensures carries { IfOk result (λ then.
+        CarriesIn world.old at.now then shred.old shred.new world.new) }
 {
-    let at = reference(&frames::pop(shred));
-    match world.key(at, is_on) {
+    let unit = reference(&shred.pop());
+    match world.key(unit, is_on) {
         Ok(()) => put(shred, Value::Int(0)),
-        Err(trap) => Ok(Then::Stopped(Stop::Trapped(trap, place))),
+        Err(trap) => Ok(Then::Stopped(Stop::Trapped(trap, at.place))),
     }
 }
 
 /// The same of the envelope beneath the int on the top, where that isn't 0, and else the other way
 /// round; the int 0 comes in the place of both, and null is a trap.
-#[tactic(auto, using(crate::proofs::Keyed::key_where_called))]
+#[tactic(auto, using(crate::proofs::Keyed::key_where_called), unfolding(machine_world::specs::Shown::shown))]
 pub(crate) fn key_where(
+    at: &Step,
     shred: &mut Shred,
     world: &mut World,
     is_on: bool,
-    place: Place,
 ) -> Result<Then, Memory>
-    requires operands { CanDo world.old
-        (λ store. of_two (operands_of shred.old) (λ u n. keyed_where is_on u n store)) }
-    requires place { next_place shred.old < 2 ^ 64 - 1 }
-    ensures follows { (code : CodeParts) (acts : List Act) (store : Store) →
-        StandsFor world.old store → let call = BuiltIn (key_where_call is_on) in
-        let effect = effect_of code call place shred.old store acts in
-        IfOk result (λ then. Follows then effect place shred.new world.new acts) }
-    ensures same { OnOk result (IsSame shred.old shred.new) }
-    ensures stays { IfOk result (λ then. Stays then shred.old shred.new) }
-    ensures ran { OnOk result (world.new.ran ≡ world.old.ran) }
+    requires is { at.now.instr ≡ BuiltIn (key_where_call is_on) }
+    requires can { CanRunIn world.old at.now shred.old }
+    ensures carries { IfOk result (λ then.
+        CarriesIn world.old at.now then shred.old shred.new world.new) }
 {
-    let n = int(&frames::pop(shred));
-    let at = reference(&frames::pop(shred));
-    match world.key(at, (n != 0) == is_on) {
+    let n = int(&shred.pop());
+    let unit = reference(&shred.pop());
+    match world.key(unit, (n != 0) == is_on) {
         Ok(()) => put(shred, Value::Int(0)),
-        Err(trap) => Ok(Then::Stopped(Stop::Trapped(trap, place))),
+        Err(trap) => Ok(Then::Stopped(Stop::Trapped(trap, at.place))),
     }
 }
 
 /// Gives an ADSR beneath its four stages them; the int 0 comes in the place of all, and null is a
 /// trap.
-#[tactic(auto, unfolding(ck_store::specs::Natives::native))]
-pub(crate) fn set_stages(shred: &mut Shred, world: &mut World, place: Place) -> Result<Then, Memory>
-    requires operands { CanDo world.old (staged_by (operands_of shred.old)) }
-    requires place { next_place shred.old < 2 ^ 64 - 1 }
-    ensures follows { (code : CodeParts) (acts : List Act) (store : Store) →
-        StandsFor world.old store →
-        let effect = effect_of code (BuiltIn SetAdsr) place shred.old store acts in
-        IfOk result (λ then. Follows then effect place shred.new world.new acts) }
-    ensures same { OnOk result (IsSame shred.old shred.new) }
-    ensures stays { IfOk result (λ then. Stays then shred.old shred.new) }
-    ensures ran { OnOk result (world.new.ran ≡ world.old.ran) }
+#[tactic(auto, unfolding(ck_store::specs::Natives::native, machine_world::specs::Shown::shown))]
+pub(crate) fn set_stages(at: &Step, shred: &mut Shred, world: &mut World) -> Result<Then, Memory>
+    requires is { at.now.instr ≡ BuiltIn SetAdsr }
+    requires can { CanRunIn world.old at.now shred.old }
+    ensures carries { IfOk result (λ then.
+        CarriesIn world.old at.now then shred.old shred.new world.new) }
 {
-    let release = dur(&frames::pop(shred));
-    let sustain = float(&frames::pop(shred));
-    let decay = dur(&frames::pop(shred));
-    let attack = dur(&frames::pop(shred));
-    let at = reference(&frames::pop(shred));
-    match world.set_stages(at, attack, decay, sustain, release) {
+    let release = dur(&shred.pop());
+    let sustain = float(&shred.pop());
+    let decay = dur(&shred.pop());
+    let attack = dur(&shred.pop());
+    let unit = reference(&shred.pop());
+    match world.set_stages(unit, attack, decay, sustain, release) {
         Ok(()) => put(shred, Value::Int(0)),
-        Err(trap) => Ok(Then::Stopped(Stop::Trapped(trap, place))),
+        Err(trap) => Ok(Then::Stopped(Stop::Trapped(trap, at.place))),
     }
 }

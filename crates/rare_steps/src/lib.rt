@@ -3,7 +3,7 @@
 //!
 //! Its one contract: [`rare_step`] does what the definition of its instruction says, or there was
 //! not enough memory. The machine calls it where an instruction isn't carried out within its loop.
-#![tactic(auto)]
+#![tactic(auto, using(machine_world::proofs::Operands::operands), unfolding(machine_world::specs::Shown::shown))]
 
 mod apart;
 mod arrays;

@@ -1,25 +1,16 @@
 //! Instructions that make objects and arrays.
-ghost use Rattle.std.specs.Prelude.{◌≡◌, [], List, ◌-◌, ◌^◌, ◌<◌, ◌≤◌, IfOk, OnOk, length, take};
-ghost use Rattle.std.specs.Prelude.{drop, reverse};
-ghost use Rattle.ck_values.specs.Datum.{all_meant};
-ghost use Rattle.ck_code.specs.declared.code.CodeParts.{CodeParts};
+ghost use Rattle.std.specs.Prelude.{◌≡◌, ◌≤◌, List, IfOk, OnOk, length, take, drop, reverse};
 ghost use Rattle.ck_code.specs.declared.instr.Instr.TheVariants.{New, Row, Grid};
-ghost use Rattle.ck_code.specs.Machine.{taken, makes_array};
-ghost use Rattle.ck_store.specs.Arrays.{row_made, grid_made};
-ghost use Rattle.ck_store.specs.Objects.{object_made};
-ghost use Rattle.ck_store.specs.Store.{Store, IsFitting};
 ghost use Rattle.machine_world.specs.declared.acts.Act.{Act};
-ghost use Rattle.machine_world.specs.Shown.{shown, operands_of, next_place, with_operands};
-ghost use Rattle.machine_world.specs.Steps.{effect_of, action_on, of_top, of_two, Follows, Stays};
-ghost use Rattle.machine_world.specs.Steps.{IsSame};
-ghost use Rattle.machine_world.specs.Tries.{CanDo};
-ghost use Rattle.machine_world.specs.Worlds.{StandsFor};
+ghost use Rattle.machine_world.specs.Scenes.{scene, CanRun, CanRunIn, Carries, CarriesIn};
+ghost use Rattle.rare_steps.specs.Rare.{literal};
+ghost use Rattle.shred_state.specs.Frames.{with_operands};
 
 use ck_base::List;
-use ck_code::CodeParts;
-use ck_values::{Elem, Place, Value};
+use ck_code::{CodeParts, Step};
+use ck_values::{Elem, Value};
 use fixed_point::Memory;
-use machine_world::{Stop, Then, World, frames, go_on, int, put};
+use machine_world::{Stop, Then, World, go_on, int, put};
 use shred_state::Shred;
 use std::alloc::Global;
 use value_ops::OpEnd;
@@ -29,23 +20,19 @@ use value_ops::OpEnd;
 pub(crate) fn make(
     alloc: Global,
     code: &CodeParts,
+    at: &Step,
     shred: &mut Shred,
     world: &mut World,
     class: u32,
-    place: Place,
 ) -> Result<Then, Memory>
-    requires class { CanDo world.old (object_made code.now.classes class) }
-    requires place { next_place shred.old < 2 ^ 64 - 1 }
-    ensures follows { (acts : List Act) (store : Store) → StandsFor world.old store →
-        let effect = effect_of code.now (New class) place shred.old store acts in
-        IfOk result (λ then. Follows then effect place shred.new world.new acts) }
-    ensures same { OnOk result (IsSame shred.old shred.new) }
-    ensures stays { IfOk result (λ then. Stays then shred.old shred.new) }
-    ensures ran { OnOk result (world.new.ran ≡ world.old.ran) }
+    requires is { at.now.instr ≡ New class }
+    requires can { (acts : List Act) × CanRun code.now at.now (scene shred.old world.old acts) }
+    ensures carries { (acts : List Act) → IfOk result (λ then. Carries code.now at.now then
+        (scene shred.old world.old acts) (scene shred.new world.new acts)) }
 {
     match world.make(alloc, code, class) {
-        Ok(at) => put(shred, Value::Ref(at)),
-        Err(OpEnd::Trap(trap)) => Ok(Then::Stopped(Stop::Trapped(trap, place))),
+        Ok(object) => put(shred, Value::Ref(object)),
+        Err(OpEnd::Trap(trap)) => Ok(Then::Stopped(Stop::Trapped(trap, at.place))),
         Err(OpEnd::Memory(memory)) => Err(memory),
     }
 }
@@ -53,26 +40,20 @@ pub(crate) fn make(
 /// Puts an array of so many first values in the place of its size, or stops by the trap.
 pub(crate) fn make_row(
     alloc: Global,
+    at: &Step,
     shred: &mut Shred,
     world: &mut World,
     elem: Elem,
-    place: Place,
 ) -> Result<Then, Memory>
-    requires operand { CanDo world.old
-        (λ store. of_top (operands_of shred.old) (λ n. row_made elem n store)) }
-    requires place { next_place shred.old < 2 ^ 64 - 1 }
-    ensures follows { (code : CodeParts) (acts : List Act) (store : Store) →
-        StandsFor world.old store →
-        let effect = effect_of code (Row elem) place shred.old store acts in
-        IfOk result (λ then. Follows then effect place shred.new world.new acts) }
-    ensures same { OnOk result (IsSame shred.old shred.new) }
-    ensures stays { IfOk result (λ then. Stays then shred.old shred.new) }
-    ensures ran { OnOk result (world.new.ran ≡ world.old.ran) }
+    requires is { at.now.instr ≡ Row elem }
+    requires can { CanRunIn world.old at.now shred.old }
+    ensures carries { IfOk result (λ then.
+        CarriesIn world.old at.now then shred.old shred.new world.new) }
 {
-    let size = int(&frames::pop(shred));
+    let size = int(&shred.pop());
     match world.make_row(alloc, elem, size) {
-        Ok(at) => put(shred, Value::Ref(at)),
-        Err(OpEnd::Trap(trap)) => Ok(Then::Stopped(Stop::Trapped(trap, place))),
+        Ok(array) => put(shred, Value::Ref(array)),
+        Err(OpEnd::Trap(trap)) => Ok(Then::Stopped(Stop::Trapped(trap, at.place))),
         Err(OpEnd::Memory(memory)) => Err(memory),
     }
 }
@@ -80,27 +61,21 @@ pub(crate) fn make_row(
 /// Puts an array of arrays in the place of its two sizes, or stops by the trap.
 pub(crate) fn make_grid(
     alloc: Global,
+    at: &Step,
     shred: &mut Shred,
     world: &mut World,
     elem: Elem,
-    place: Place,
 ) -> Result<Then, Memory>
-    requires operands { CanDo world.old
-        (λ store. of_two (operands_of shred.old) (λ n m. (grid_made elem n m store).end)) }
-    requires place { next_place shred.old < 2 ^ 64 - 1 }
-    ensures follows { (code : CodeParts) (acts : List Act) (store : Store) →
-        StandsFor world.old store →
-        let effect = effect_of code (Grid elem) place shred.old store acts in
-        IfOk result (λ then. Follows then effect place shred.new world.new acts) }
-    ensures same { OnOk result (IsSame shred.old shred.new) }
-    ensures stays { IfOk result (λ then. Stays then shred.old shred.new) }
-    ensures ran { OnOk result (world.new.ran ≡ world.old.ran) }
+    requires is { at.now.instr ≡ Grid elem }
+    requires can { CanRunIn world.old at.now shred.old }
+    ensures carries { IfOk result (λ then.
+        CarriesIn world.old at.now then shred.old shred.new world.new) }
 {
-    let columns = int(&frames::pop(shred));
-    let rows = int(&frames::pop(shred));
+    let columns = int(&shred.pop());
+    let rows = int(&shred.pop());
     match world.make_grid(alloc, elem, rows, columns) {
-        Ok(at) => put(shred, Value::Ref(at)),
-        Err(OpEnd::Trap(trap)) => Ok(Then::Stopped(Stop::Trapped(trap, place))),
+        Ok(array) => put(shred, Value::Ref(array)),
+        Err(OpEnd::Trap(trap)) => Ok(Then::Stopped(Stop::Trapped(trap, at.place))),
         Err(OpEnd::Memory(memory)) => Err(memory),
     }
 }
@@ -109,29 +84,25 @@ pub(crate) fn make_grid(
 /// many objects were made as may be.
 pub(crate) fn make_array(
     alloc: Global,
+    at: &Step,
     shred: &mut Shred,
     world: &mut World,
     elem: Elem,
     two: bool,
     n: usize,
-    place: Place,
 ) -> Result<Then, Memory>
-    requires operands { IsFitting (taken n [] (operands_of shred.old)) }
-    requires place { next_place shred.old < 2 ^ 64 - 1 }
-    ensures follows { (acts : List Act) (store : Store) → StandsFor world.old store →
-        let effect = action_on (makes_array place elem two n) shred.old store acts in
-        IfOk result (λ then. Follows then effect place shred.new world.new acts) }
-    ensures same { OnOk result (IsSame shred.old shred.new) }
-    ensures stays { IfOk result (λ then. Stays then shred.old shred.new) }
-    ensures ran { OnOk result (world.new.ran ≡ world.old.ran) }
+    requires is { at.now.instr ≡ literal elem two n }
+    requires can { CanRunIn world.old at.now shred.old }
+    ensures carries { IfOk result (λ then.
+        CarriesIn world.old at.now then shred.old shred.new world.new) }
 {
     let items = take_operands(alloc, shred, n)?;
     match world.make_array(elem, two, items) {
-        Ok(at) => {
-            frames::push(shred, Value::Ref(at))?;
+        Ok(array) => {
+            shred.push(Value::Ref(array))?;
             Ok(go_on(shred))
         }
-        Err(OpEnd::Trap(trap)) => Ok(Then::Stopped(Stop::Trapped(trap, place))),
+        Err(OpEnd::Trap(trap)) => Ok(Then::Stopped(Stop::Trapped(trap, at.place))),
         Err(OpEnd::Memory(memory)) => Err(memory),
     }
 }
@@ -142,16 +113,15 @@ pub(crate) fn take_operands(
     shred: &mut Shred,
     n: usize,
 ) -> Result<List<Value>, Memory>
-    requires { n ≤ length (operands_of shred.old) }
-    ensures taken { IfOk result (λ values.
-        all_meant values ≡ reverse (take n (operands_of shred.old))) }
-    ensures left { OnOk result (shown shred.new
-        ≡ with_operands (shown shred.old) (drop n (operands_of shred.old))) }
+    requires { n ≤ length shred.old.top.operands }
+    ensures taken { IfOk result (λ values. values ≡ reverse (take n shred.old.top.operands)) }
+    ensures left { OnOk result
+        (shred.new ≡ with_operands shred.old (drop n shred.old.top.operands)) }
 {
     let mut values = Vec::with_capacity(alloc, n)?;
     let mut left = n;
     'operands: while left > 0 {
-        values.push(frames::pop(shred))?;
+        values.push(shred.pop())?;
         left -= 1;
     }
     values.reverse();

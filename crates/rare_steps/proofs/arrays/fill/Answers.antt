@@ -1,27 +1,55 @@
-use Rattle.std.proofs.Common.{arith}
+use Rattle.std.proofs.Common.{subst, sym, arith}
 use Rattle.std.proofs.lemmas.Grind.{common_steps}
 use Rattle.ck_values.specs.Datum.{meant}
 use Rattle.ck_store.specs.Arrays.{filled}
 use Rattle.machine_world.specs.Shown.{shown, operands_of}
-use Rattle.machine_world.proofs.Indexed.{array_refers, fill_array}
-use Rattle.machine_world.proofs.Picked.{first_of_two, first_of_three, looked_at}
+use Rattle.machine_world.specs.Worlds.{StandsFor}
 use Rattle.machine_world.proofs.Follows.{follows_same}
+use Rattle.machine_world.proofs.Indexed.{array_refers, fill_array}
+use Rattle.machine_world.proofs.Operands.{taken_meant, operand_meant, split_top}
+use Rattle.machine_world.proofs.Picked.{first_of_two, first_of_three, looked_at}
+use Rattle.rare_steps.proofs.Carried.{carried_in}
+use Rattle.rare_steps.proofs.Found.{fill_fits}
 use Rattle.rare_steps.proofs.arrays.fill.Goals as goal
 
-pub reference-at-requires : goal.reference-at-requires
-reference-at-requires c =
-    let store = c.requires.operands.store in
+pub reference-array-requires : goal.reference-array-requires
+reference-array-requires c =
+    let store = c.requires.can.can.store in
     let v = meant c.pop-v.result in
     let i = meant c.pop-index.result in
     let r = meant c.peek.result.now in
     array_refers store.objects r (fill_array store r i v
-    (looked_at (λ r. filled store r i v) (operands_of c.pop-index.new.shred) r c.peek.ensures
-    (first_of_two (λ r i. filled store r i v) (shown c.pop-v.new.shred) (shown c.pop-index.new.shred) i
-    c.pop-index.ensures
-    (first_of_three (filled store) (shown c.args.shred.now) (shown c.pop-v.new.shred) v c.pop-v.ensures
-    c.requires.operands.so))))
+    (looked_at (λ r. filled store r i v) (operands_of c.pop-index.new.self) r
+    (operand_meant c.pop-index.new.self 0 _ c.peek.ensures)
+    (first_of_two (λ r i. filled store r i v) _ _ i (taken_meant _ _ _ c.pop-index.ensures)
+    (first_of_three (filled store) _ _ v (taken_meant _ _ _ c.pop-v.ensures)
+    (fill_fits _ _ _ c.requires.is c.requires.can.can)))))
 
-pub returns-in-Ok-clause-follows : goal.returns-in-Ok-clause-follows
-returns-in-Ok-clause-follows c = λ code acts store stands.
-    let made = c.in-Ok.ensures.filled store stands in
-    follows_same _ made.store made.stands c.put.result _ _ _ _ (grind (arith, common_steps))
+pub returns-in-Ok : goal.returns-in-Ok
+unfolding shown
+returns-in-Ok c = record {
+  carries = carried_in c.put.result c.args.at.now c.args.world.now c.fill.new.self
+      c.args.shred.now c.put.new.shred (grind (arith, common_steps)) (grind (arith, common_steps))
+      c.in-Ok.ensures.ran (λ code acts store stands.
+      let made = c.in-Ok.ensures.filled store stands in
+      let top = split_top c.pop-index.new.self.top.operands _ c.peek.ensures in
+      follows_same _ made.store made.stands c.put.result _ _ _ _ (grind (arith, common_steps, top)));
+}
+
+pub returns : goal.returns
+unfolding shown
+returns c = record {
+  carries = λ code acts. record {
+    follows = λ store stands.
+        let null = c.in-Err.ensures.null store stands in
+        let top = split_top c.pop-index.new.self.top.operands _ c.peek.ensures in
+        record {
+          store = store;
+          stands = subst (λ world. StandsFor world store) (sym c.in-Err.ensures.same) stands;
+          so = grind (arith, common_steps, top);
+        };
+    same = grind (arith, common_steps);
+    stays = tt;
+    ran = c.in-Err.ensures.ran;
+  };
+}

@@ -3,22 +3,30 @@ use Rattle.std.proofs.lemmas.Grind.{common_steps}
 use Rattle.ck_values.specs.Datum.{meant}
 use Rattle.ck_store.specs.Graph.{connected}
 use Rattle.machine_world.specs.Shown.{shown}
-use Rattle.machine_world.proofs.Located.{unit_refers, connect_first}
-use Rattle.machine_world.proofs.Picked.{first_of_two, one_taken}
 use Rattle.machine_world.proofs.Follows.{follows_same}
+use Rattle.machine_world.proofs.Located.{unit_refers, connect_first}
+use Rattle.machine_world.proofs.Operands.{taken_meant}
+use Rattle.machine_world.proofs.Picked.{first_of_two, one_taken}
+use Rattle.rare_steps.proofs.Found.{connect_fits}
+use Rattle.rare_steps.proofs.Carried.{carried_in}
 use Rattle.rare_steps.proofs.graph.connect.Goals as goal
 
 pub reference-from-requires : goal.reference-from-requires
 reference-from-requires c =
-    let store = c.requires.operands.store in
+    let store = c.requires.can.can.store in
     let to = meant c.pop-to.result in
     let from = meant c.pop.result in
     unit_refers store.objects from (connect_first store from to
-    (one_taken (λ from. connected from to store) (shown c.pop-to.new.shred) (shown c.pop.new.shred) from c.pop.ensures
-    (first_of_two (λ from to. connected from to store) (shown c.args.shred.now) (shown c.pop-to.new.shred) to
-    c.pop-to.ensures c.requires.operands.so)))
+    (one_taken (λ from. connected from to store) _ _ from (taken_meant _ _ _ c.pop.ensures)
+    (first_of_two (λ from to. connected from to store) _ _ to (taken_meant _ _ _ c.pop-to.ensures)
+    (connect_fits _ _ _ c.requires.is c.requires.can.can))))
 
-pub returns-in-Ok-clause-follows : goal.returns-in-Ok-clause-follows
-returns-in-Ok-clause-follows c = λ code acts store stands.
-    let made = c.in-Ok.ensures.connected store stands in
-    follows_same _ made.store made.stands c.put.result _ _ _ _ (grind (arith, common_steps))
+pub returns-in-Ok : goal.returns-in-Ok
+unfolding shown
+returns-in-Ok c = record {
+  carries = carried_in c.put.result c.args.at.now c.args.world.now c.connect.new.self
+      c.args.shred.now c.put.new.shred (grind (arith, common_steps)) (grind (arith, common_steps))
+      c.in-Ok.ensures.ran (λ code acts store stands.
+      let made = c.in-Ok.ensures.connected store stands in
+      follows_same _ made.store made.stands c.put.result _ _ _ _ (grind (arith, common_steps)));
+}

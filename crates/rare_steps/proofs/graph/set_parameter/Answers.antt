@@ -3,23 +3,31 @@ use Rattle.std.proofs.lemmas.Grind.{common_steps}
 use Rattle.ck_values.specs.Datum.{meant}
 use Rattle.ck_store.specs.Graph.{parameter_set}
 use Rattle.machine_world.specs.Shown.{shown}
-use Rattle.machine_world.proofs.Located.{unit_refers, set_first}
-use Rattle.machine_world.proofs.Picked.{first_of_two, one_taken}
 use Rattle.machine_world.proofs.Follows.{follows_same}
+use Rattle.machine_world.proofs.Located.{unit_refers, set_first}
+use Rattle.machine_world.proofs.Operands.{taken_meant}
+use Rattle.machine_world.proofs.Picked.{first_of_two, one_taken}
+use Rattle.rare_steps.proofs.Found.{set_parameter_fits}
+use Rattle.rare_steps.proofs.Carried.{carried_in}
 use Rattle.rare_steps.proofs.graph.set_parameter.Goals as goal
 
-pub reference-at-requires : goal.reference-at-requires
-reference-at-requires c =
-    let store = c.requires.operands.store in
+pub reference-unit-requires : goal.reference-unit-requires
+reference-unit-requires c =
+    let store = c.requires.can.can.store in
     let v = meant c.pop-v.result in
     let u = meant c.pop.result in
-    unit_refers store.objects u (set_first c.args.p store u v
-    (one_taken (λ u. parameter_set c.args.p u v store) (shown c.pop-v.new.shred) (shown c.pop.new.shred) u
-    c.pop.ensures
-    (first_of_two (λ u v. parameter_set c.args.p u v store) (shown c.args.shred.now) (shown c.pop-v.new.shred) v
-    c.pop-v.ensures c.requires.operands.so)))
+    let p = c.args.p in
+    unit_refers store.objects u (set_first p store u v
+    (one_taken (λ u. parameter_set p u v store) _ _ u (taken_meant _ _ _ c.pop.ensures)
+    (first_of_two (λ u v. parameter_set p u v store) _ _ v (taken_meant _ _ _ c.pop-v.ensures)
+    (set_parameter_fits _ _ _ p c.requires.is c.requires.can.can))))
 
-pub returns-in-Ok-clause-follows : goal.returns-in-Ok-clause-follows
-returns-in-Ok-clause-follows c = λ code acts store stands.
-    let made = c.in-Ok.ensures.set store stands in
-    follows_same _ made.store made.stands c.put.result _ _ _ _ (grind (arith, common_steps))
+pub returns-in-Ok : goal.returns-in-Ok
+unfolding shown
+returns-in-Ok c = record {
+  carries = carried_in c.put.result c.args.at.now c.args.world.now c.set_parameter.new.self
+      c.args.shred.now c.put.new.shred (grind (arith, common_steps)) (grind (arith, common_steps))
+      c.in-Ok.ensures.ran (λ code acts store stands.
+      let made = c.in-Ok.ensures.set store stands in
+      follows_same _ made.store made.stands c.put.result _ _ _ _ (grind (arith, common_steps)));
+}

@@ -4,21 +4,32 @@ use Rattle.ck_values.specs.Datum.{meant}
 use Rattle.ck_store.specs.Graph.{unit_keyed}
 use Rattle.ugen_kinds.specs.Generator.{keyed}
 use Rattle.machine_world.specs.Shown.{shown}
-use Rattle.machine_world.proofs.Located.{unit_refers, change_first}
-use Rattle.machine_world.proofs.Picked.{one_taken}
 use Rattle.machine_world.proofs.Follows.{follows_same}
+use Rattle.rare_steps.proofs.Carried.{carried_in}
+use Rattle.machine_world.proofs.Located.{unit_refers, change_first}
+use Rattle.machine_world.proofs.Operands.{taken_meant}
+use Rattle.machine_world.proofs.Picked.{one_taken}
+use Rattle.rare_steps.specs.Keys.{key_call}
+use Rattle.rare_steps.proofs.Arguments.{key_takes}
+use Rattle.rare_steps.proofs.Found.{native_fits}
 use Rattle.rare_steps.proofs.Keyed.{key_called}
 use Rattle.rare_steps.proofs.keys.key.Goals as goal
 
-pub reference-at-requires : goal.reference-at-requires
-reference-at-requires c =
-    let store = c.requires.operand.store in
+pub reference-unit-requires : goal.reference-unit-requires
+reference-unit-requires c =
+    let can = c.requires.can.can in
+    let on = c.args.is_on in
     let u = meant c.pop.result in
-    unit_refers store.objects u (change_first (keyed c.args.is_on) store u
-    (one_taken (λ u. unit_keyed c.args.is_on u store) (shown c.args.shred.now) (shown c.pop.new.shred) u
-    c.pop.ensures c.requires.operand.so))
+    unit_refers can.store.objects u (change_first (keyed on) can.store u
+    (one_taken (λ u. unit_keyed on u can.store) _ _ u (taken_meant _ _ _ c.pop.ensures)
+    (key_takes on _ _ (native_fits _ _ _ (key_call on) c.requires.is can))))
 
-pub returns-in-Ok-clause-follows : goal.returns-in-Ok-clause-follows
-returns-in-Ok-clause-follows c = λ code acts store stands.
-    let made = c.in-Ok.ensures.keyed store stands in
-    follows_same _ made.store made.stands c.put.result _ _ _ _ (grind (arith, common_steps, key_called))
+pub returns-in-Ok : goal.returns-in-Ok
+unfolding shown
+returns-in-Ok c = record {
+  carries = carried_in c.put.result c.args.at.now c.args.world.now c.key.new.self
+      c.args.shred.now c.put.new.shred (grind (arith, common_steps)) (grind (arith, common_steps))
+      c.in-Ok.ensures.ran (λ code acts store stands.
+      let made = c.in-Ok.ensures.keyed store stands in
+      follows_same _ made.store made.stands c.put.result _ _ _ _ (grind (arith, common_steps, key_called)));
+}

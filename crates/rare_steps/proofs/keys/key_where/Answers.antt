@@ -1,37 +1,65 @@
-use Rattle.std.proofs.Common.{arith, subst, sym}
+use Rattle.std.proofs.Common.{subst, sym, arith}
 use Rattle.std.proofs.lemmas.Grind.{common_steps}
 use Rattle.ck_values.specs.Datum.{meant}
-use Rattle.rare_steps.specs.Keys.{keyed_where}
-use Rattle.machine_world.specs.Shown.{shown}
-use Rattle.machine_world.proofs.Located.{unit_refers}
-use Rattle.rare_steps.proofs.Keyed.{keyed_first}
-use Rattle.machine_world.proofs.Picked.{first_of_two, one_taken}
-use Rattle.machine_world.proofs.Follows.{follows_same}
-use Rattle.rare_steps.proofs.Keyed.{key_where_called}
+use Rattle.ck_store.specs.Operators.{int_in}
+use Rattle.ck_store.specs.Store.{IsFitting}
+use Rattle.machine_world.specs.Shown.{shown, operands_of}
 use Rattle.machine_world.specs.Worlds.{StandsFor}
+use Rattle.machine_world.proofs.Follows.{follows_same}
+use Rattle.rare_steps.proofs.Carried.{carried_in}
+use Rattle.machine_world.proofs.Located.{unit_refers}
+use Rattle.machine_world.proofs.Operands.{taken_meant}
+use Rattle.machine_world.proofs.Picked.{first_of_two, one_taken, whatever}
+use Rattle.rare_steps.specs.Keys.{key_where_call}
+use Rattle.rare_steps.proofs.Arguments.{key_where_takes}
+use Rattle.rare_steps.proofs.Found.{native_fits}
+use Rattle.rare_steps.proofs.Keyed.{keyed_where, keyed_first, keyed_int, key_where_called}
 use Rattle.rare_steps.proofs.keys.key_where.Goals as goal
 
-pub reference-at-requires : goal.reference-at-requires
-reference-at-requires c =
-    let store = c.requires.operands.store in
+pub int-n-requires : goal.int-n-requires
+int-n-requires c =
+    let can = c.requires.can.can in
+    let on = c.args.is_on in
+    let n = meant c.pop.result in
+    whatever (IsFitting (int_in n)) (λ u. keyed_where on u n can.store) (operands_of c.pop.new.self)
+    (λ u fits. keyed_int on can.store u n fits)
+    (first_of_two (λ u n. keyed_where on u n can.store) _ _ n (taken_meant _ _ _ c.pop.ensures)
+    (key_where_takes on _ _ (native_fits _ _ _ (key_where_call on) c.requires.is can)))
+
+pub reference-unit-requires : goal.reference-unit-requires
+reference-unit-requires c =
+    let can = c.requires.can.can in
+    let on = c.args.is_on in
     let n = meant c.pop.result in
     let u = meant c.pop-2.result in
-    unit_refers store.objects u (keyed_first c.args.is_on store u n
-    (one_taken (λ u. keyed_where c.args.is_on u n store) (shown c.pop.new.shred) (shown c.pop-2.new.shred) u
-    c.pop-2.ensures
-    (first_of_two (λ u n. keyed_where c.args.is_on u n store) (shown c.args.shred.now) (shown c.pop.new.shred) n
-    c.pop.ensures c.requires.operands.so)))
+    unit_refers can.store.objects u (keyed_first on can.store u n
+    (one_taken (λ u. keyed_where on u n can.store) _ _ u (taken_meant _ _ _ c.pop-2.ensures)
+    (first_of_two (λ u n. keyed_where on u n can.store) _ _ n (taken_meant _ _ _ c.pop.ensures)
+    (key_where_takes on _ _ (native_fits _ _ _ (key_where_call on) c.requires.is can)))))
 
-pub returns-in-Ok-clause-follows : goal.returns-in-Ok-clause-follows
-returns-in-Ok-clause-follows c = λ code acts store stands.
-    let made = c.in-Ok.ensures.keyed store stands in
-    follows_same _ made.store made.stands c.put.result _ _ _ _ (grind (arith, common_steps, key_where_called))
+pub returns-in-Ok : goal.returns-in-Ok
+unfolding shown
+returns-in-Ok c = record {
+  carries = carried_in c.put.result c.args.at.now c.args.world.now c.key.new.self
+      c.args.shred.now c.put.new.shred (grind (arith, common_steps)) (grind (arith, common_steps))
+      c.in-Ok.ensures.ran (λ code acts store stands.
+      let made = c.in-Ok.ensures.keyed store stands in
+      follows_same _ made.store made.stands c.put.result _ _ _ _ (grind (arith, common_steps, key_where_called)));
+}
 
-pub returns-in-Err-clause-follows : goal.returns-in-Err-clause-follows
-returns-in-Err-clause-follows c = λ code acts store stands.
-    let null = c.in-Err.ensures.null store stands in
-    record {
-      store = store;
-      stands = subst (λ world. StandsFor world store) (sym c.in-Err.ensures.same) stands;
-      so = grind (arith, common_steps, key_where_called);
-    }
+pub returns-in-Err : goal.returns-in-Err
+unfolding shown
+returns-in-Err c = record {
+  carries = λ code acts. record {
+    follows = λ store stands.
+        let null = c.in-Err.ensures.null store stands in
+        record {
+          store = store;
+          stands = subst (λ world. StandsFor world store) (sym c.in-Err.ensures.same) stands;
+          so = grind (arith, common_steps, key_where_called);
+        };
+    same = grind (arith, common_steps);
+    stays = tt;
+    ran = c.in-Err.ensures.ran;
+  };
+}

@@ -3,20 +3,29 @@ use Rattle.std.proofs.lemmas.Grind.{common_steps}
 use Rattle.ck_values.specs.Datum.{meant}
 use Rattle.ck_store.specs.Arrays.{row_made}
 use Rattle.machine_world.specs.Shown.{shown}
-use Rattle.machine_world.proofs.Indexed.{row_int}
-use Rattle.machine_world.proofs.Picked.{one_taken}
 use Rattle.machine_world.proofs.Follows.{follows_same}
+use Rattle.machine_world.proofs.Indexed.{row_int}
+use Rattle.machine_world.proofs.Operands.{taken_meant}
+use Rattle.machine_world.proofs.Picked.{one_taken}
+use Rattle.rare_steps.proofs.Carried.{carried_in}
+use Rattle.rare_steps.proofs.Found.{row_fits}
 use Rattle.rare_steps.proofs.makings.make_row.Goals as goal
 
 pub int-size-requires : goal.int-size-requires
 int-size-requires c =
-    let store = c.requires.operand.store in
+    let can = c.requires.can.can in
+    let e = c.args.elem in
     let n = meant c.pop.result in
-    row_int c.args.elem n store
-    (one_taken (λ n. row_made c.args.elem n store) (shown c.args.shred.now) (shown c.pop.new.shred) n c.pop.ensures
-    c.requires.operand.so)
+    row_int e n can.store
+    (one_taken (λ n. row_made e n can.store) _ _ n (taken_meant _ _ _ c.pop.ensures)
+    (row_fits _ _ _ e c.requires.is can))
 
-pub returns-in-Ok-clause-follows : goal.returns-in-Ok-clause-follows
-returns-in-Ok-clause-follows c = λ code acts store stands.
-    let made = c.in-Ok.ensures.made store stands in
-    follows_same _ made.store made.stands c.put.result _ _ _ _ (grind (arith, common_steps))
+pub returns-in-Ok : goal.returns-in-Ok
+unfolding shown
+returns-in-Ok c = record {
+  carries = carried_in c.put.result c.args.at.now c.args.world.now c.make_row.new.self
+      c.args.shred.now c.put.new.shred (grind (arith, common_steps)) (grind (arith, common_steps))
+      c.in-Ok.ensures.ran (λ code acts store stands.
+      let made = c.in-Ok.ensures.made store stands in
+      follows_same _ made.store made.stands c.put.result _ _ _ _ (grind (arith, common_steps)));
+}

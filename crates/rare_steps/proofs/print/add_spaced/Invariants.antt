@@ -6,7 +6,7 @@ use Rattle.rare_steps.proofs.print.add_spaced.Given as goal
 
 abbrev pub invariant-items : goal.invariant-items
 invariant-items l = record {
-  few : l.left ≤ length (operands_of l.shred);
+  few : l.left ≤ length l.shred.top.operands;
   so : l.initial.line.items ++ spaced (items_of l.initial.left (operands_of l.shred))
       ≡ l.line.items ++ spaced (items_of l.left (operands_of l.shred));
 }

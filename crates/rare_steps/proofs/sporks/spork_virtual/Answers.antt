@@ -1,88 +1,136 @@
-use Rattle.std.proofs.Common.{◌≡◌, sym, subst, IfOk, arith}
+use Rattle.std.proofs.Common.{◌≡◌, ap, refl, sym, subst, ◌∙◌, arith}
 use Rattle.ck_values.specs.Datum.{meant}
-use Rattle.ck_store.specs.Store.{Gives, Fails, IsFitting}
 use Rattle.ck_store.specs.Objects.{method_of}
-use Rattle.machine_world.specs.Steps.{Follows, state_of}
+use Rattle.ck_store.specs.Store.{Store, Gives, Fails, IsFitting}
+use Rattle.ck_code.specs.declared.instr.Instr.TheVariants.{SporkVirtual, Spork}
+use Rattle.machine_world.specs.Scenes.{scene, state_over}
 use Rattle.machine_world.specs.Shown.{shown, operands_of}
+use Rattle.machine_world.specs.Steps.{IsGood, effect_in}
+use Rattle.machine_world.specs.Worlds.{StandsFor}
+use Rattle.machine_world.proofs.Carried.{carries_as, carries_trap, breaks_here, good_as}
+use Rattle.machine_world.proofs.Numbered.{length-meant}
+use Rattle.machine_world.proofs.Operands.{operand_meant}
 use Rattle.machine_world.proofs.Parts.{method_refers, refers}
+use Rattle.machine_world.proofs.Results.{ok_then}
 use Rattle.machine_world.proofs.Sends.{sporking, sends_some, sends_within, sends_fits, sends_breaks, sends_begin}
+use Rattle.machine_world.proofs.Sends.{BeginsSo}
 use Rattle.machine_world.proofs.Stands.{each_so}
+use Rattle.rare_steps.proofs.sporks.spork_virtual.Goals.{After-operand, In-Ok}
 use Rattle.rare_steps.proofs.sporks.spork_virtual.Goals as goal
 
 pub overflow_sub-n : goal.overflow_sub-n
 overflow_sub-n c =
-    let s = state_of c.args.shred.now c.requires.good.store c.args.acts.now in
-    sends_some c.args.code.now c.args.place c.args.slot (operands_of c.args.shred.now) s
-    (sporking c.args.place (shown c.args.shred.now) s) c.args.n c.requires.good.so
+    let now = scene c.args.shred.now c.args.world.now c.args.acts.now in
+    let s = state_over c.requires.can.store now in
+    sends_some c.args.code.now c.args.at.now.place c.args.slot (operands_of now.shred) s
+    (sporking c.args.at.now.place (shown now.shred) s) c.args.n
+    (good_as _ _ now (SporkVirtual c.args.slot c.args.n) c.requires.is c.requires.can)
 
 pub operand-requires : goal.operand-requires
+unfolding shown
 operand-requires c =
-    let ops = operands_of c.args.shred.now in
-    let s = state_of c.args.shred.now c.requires.good.store c.args.acts.now in
-    let sporks = sporking c.args.place (shown c.args.shred.now) s in
-    let some = sends_some c.args.code.now c.args.place c.args.slot ops s sporks c.args.n c.requires.good.so in
-    let within = sends_within c.args.code.now c.args.place c.args.slot ops s sporks c.args.n c.requires.good.so in
-    omega (arith, some, within)
+    let now = scene c.args.shred.now c.args.world.now c.args.acts.now in
+    let s = state_over c.requires.can.store now in
+    let sporks = sporking c.args.at.now.place (shown now.shred) s in
+    let good = good_as _ _ now (SporkVirtual c.args.slot c.args.n) c.requires.is c.requires.can in
+    let code = c.args.code.now in
+    let place = c.args.at.now.place in
+    let ops = operands_of now.shred in
+    let some = sends_some code place c.args.slot ops s sporks c.args.n good in
+    let within = sends_within code place c.args.slot ops s sporks c.args.n good in
+    omega (arith, some, within, length-meant c.args.shred.now.top.operands)
+
+-- what a spork of the receiver finds
+receives : (c : After-operand) → let now = scene c.args.shred.now c.args.world.now c.args.acts.now in
+    IsFitting (method_of c.args.code.now.classes c.requires.can.store.objects
+    (meant c.operand.result.now) c.args.slot)
+receives c =
+    let now = scene c.args.shred.now c.args.world.now c.args.acts.now in
+    let s = state_over c.requires.can.store now in
+    sends_fits c.args.code.now c.args.at.now.place c.args.slot (operands_of now.shred) s
+    (sporking c.args.at.now.place (shown now.shred) s) c.args.n (meant c.operand.result.now)
+    (operand_meant now.shred _ _ c.operand.ensures)
+    (good_as _ _ now (SporkVirtual c.args.slot c.args.n) c.requires.is c.requires.can)
 
 pub reference-receiver-requires : goal.reference-receiver-requires
 reference-receiver-requires c =
-    let code = c.args.code.now in
-    let s = state_of c.args.shred.now c.requires.good.store c.args.acts.now in
+    let objects = c.requires.can.store.objects in
     let r = meant c.operand.result.now in
-    refers s.store.objects r (method_refers code.classes s.store.objects r c.args.slot
-    (sends_fits code c.args.place c.args.slot (operands_of c.args.shred.now) s
-    (sporking c.args.place (shown c.args.shred.now) s) c.args.n r c.operand.ensures c.requires.good.so))
+    refers objects r (method_refers c.args.code.now.classes objects r c.args.slot
+    (receives (goal.at.reference-receiver-requires c).After-operand))
 
 pub method-requires : goal.method-requires
 method-requires c =
-    let code = c.args.code.now in
-    let s = state_of c.args.shred.now c.requires.good.store c.args.acts.now in
-    let r = meant c.operand.result.now in
+    let can = c.requires.can in
     record {
-      store = s.store;
-      stands = c.requires.good.stands;
-      so = subst (λ r. IsFitting (method_of code.classes s.store.objects r c.args.slot))
-          c.reference-receiver.ensures
-          (sends_fits code c.args.place c.args.slot (operands_of c.args.shred.now) s
-          (sporking c.args.place (shown c.args.shred.now) s) c.args.n r c.operand.ensures
-          c.requires.good.so);
+      store = can.store;
+      stands = can.stands;
+      so = subst (λ r. IsFitting (method_of c.args.code.now.classes can.store.objects r c.args.slot))
+          (ap meant c.reference-receiver.ensures)
+          (receives (goal.at.method-requires c).After-operand);
     }
+
+-- over each store its effect is good, and so it is that of a spork of what was found
+begins : (c : In-Ok) → let now = scene c.args.shred.now c.args.world.now c.args.acts.now in
+    (store : Store) → StandsFor c.args.world.now store
+    → BeginsSo c.args.code.now c.args.at.now.place c.args.slot (operands_of now.shred)
+    (state_over store now) (sporking c.args.at.now.place (shown now.shred) (state_over store now))
+    c.in-Ok.fun (effect_in c.args.code.now (SporkVirtual c.args.slot c.args.n) c.args.at.now.place
+    (shown now.shred) (state_over store now))
+begins c store stands =
+    let now = scene c.args.shred.now c.args.world.now c.args.acts.now in
+    let code = c.args.code.now in
+    let can = c.requires.can in
+    let instr = SporkVirtual c.args.slot c.args.n in
+    let r = meant c.operand.result.now in
+    let good = each_so _ (λ store.
+    IsGood (effect_in code instr c.args.at.now.place (shown now.shred) (state_over store now)))
+    (record { store = can.store; stands = can.stands; so = good_as _ _ now instr c.requires.is can })
+    store stands in
+    let found = subst (λ r. method_of code.classes store.objects r c.args.slot ≡ Gives c.in-Ok.fun)
+    (sym (ap meant c.reference-receiver.ensures)) (c.in-Ok.ensures.found store stands) in
+    sends_begin code c.args.at.now.place c.args.slot (operands_of now.shred) (state_over store now)
+    (sporking c.args.at.now.place (shown now.shred) (state_over store now)) c.args.n r c.in-Ok.fun
+    (operand_meant now.shred _ _ c.operand.ensures) good found
 
 pub spork-requires-clause-arguments : goal.spork-requires-clause-arguments
 spork-requires-clause-arguments c =
-    let code = c.args.code.now in
-    let s = state_of c.args.shred.now c.requires.good.store c.args.acts.now in
-    let r = meant c.operand.result.now in
-    let found = subst (λ r. method_of code.classes s.store.objects r c.args.slot ≡ Gives c.in-Ok.fun)
-    (sym c.reference-receiver.ensures) (c.in-Ok.ensures.found s.store c.requires.good.stands) in
-    (sends_begin code c.args.place c.args.slot (operands_of c.args.shred.now) s
-    (sporking c.args.place (shown c.args.shred.now) s) c.args.n r c.in-Ok.fun c.operand.ensures c.requires.good.so found).arguments
+    let can = c.requires.can in
+    (begins (goal.at.spork-requires-clause-arguments c).In-Ok can.store can.stands).arguments
 
-pub returns-in-Ok-clause-follows : goal.returns-in-Ok-clause-follows
-returns-in-Ok-clause-follows c = λ store stands.
+pub returns-in-Ok : goal.returns-in-Ok
+returns-in-Ok c =
     let code = c.args.code.now in
-    let s = state_of c.args.shred.now store c.args.acts.now in
-    let good = each_so _ _ c.requires.good store stands in
-    let r = meant c.operand.result.now in
-    let found = subst (λ r. method_of code.classes s.store.objects r c.args.slot ≡ Gives c.in-Ok.fun)
-    (sym c.reference-receiver.ensures) (c.in-Ok.ensures.found store stands) in
-    let same = (sends_begin code c.args.place c.args.slot (operands_of c.args.shred.now) s
-    (sporking c.args.place (shown c.args.shred.now) s) c.args.n r c.in-Ok.fun c.operand.ensures good found).same in
-    subst (λ e. IfOk c.spork.result (λ then. Follows then e c.args.place c.spork.new.shred
-    c.spork.new.world c.spork.new.acts)) (sym same) (c.spork.ensures.follows store stands)
-
-pub returns-in-Err-clause-follows : goal.returns-in-Err-clause-follows
-returns-in-Err-clause-follows c = λ store stands.
-    let code = c.args.code.now in
-    let s = state_of c.args.shred.now store c.args.acts.now in
-    let good = each_so _ _ c.requires.good store stands in
-    let r = meant c.operand.result.now in
-    let null = subst (λ r. method_of code.classes s.store.objects r c.args.slot ≡ Fails c.in-Err.trap)
-    (sym c.reference-receiver.ensures) (c.in-Err.ensures.null store stands) in
+    let at = c.args.at.now in
+    let now = scene c.args.shred.now c.args.world.now c.args.acts.now in
     record {
-      store = store;
-      stands = stands;
-      so = sends_breaks code c.args.place c.args.slot (operands_of c.args.shred.now) s
-          (sporking c.args.place (shown c.args.shred.now) s) c.args.n r c.in-Err.trap
-          c.operand.ensures good null;
+      carries = ok_then c.spork.result _ _ (λ then.
+          carries_as code at (record at { instr = Spork c.in-Ok.fun }) then now _ refl (λ store stands.
+          ap (λ instr. effect_in code instr at.place (shown now.shred) (state_over store now)) c.requires.is
+          ∙ (begins (goal.at.returns-in-Ok c).In-Ok store stands).same))
+          c.spork.ensures.carries;
+    }
+
+pub returns-in-Err : goal.returns-in-Err
+returns-in-Err c =
+    let code = c.args.code.now in
+    let at = c.args.at.now in
+    let now = scene c.args.shred.now c.args.world.now c.args.acts.now in
+    let instr = SporkVirtual c.args.slot c.args.n in
+    let can = c.requires.can in
+    record {
+      carries = carries_trap code at c.in-Err.trap now now
+          (record { number = refl; parent = refl; last = refl }) refl refl refl
+          (breaks_here code at c.in-Err.trap now now.world refl (λ store stands.
+          let s = state_over store now in
+          let good = each_so _ (λ store.
+          IsGood (effect_in code instr at.place (shown now.shred) (state_over store now)))
+          (record { store = can.store; stands = can.stands; so = good_as _ _ now instr c.requires.is can })
+          store stands in
+          let null = subst (λ r. method_of code.classes store.objects r c.args.slot ≡ Fails c.in-Err.trap)
+          (sym (ap meant c.reference-receiver.ensures)) (c.in-Err.ensures.null store stands) in
+          ap (λ instr. effect_in code instr at.place (shown now.shred) s) c.requires.is
+          ∙ sends_breaks code at.place c.args.slot (operands_of now.shred) s
+          (sporking at.place (shown now.shred) s) c.args.n (meant c.operand.result.now) c.in-Err.trap
+          (operand_meant now.shred _ _ c.operand.ensures) good null));
     }
