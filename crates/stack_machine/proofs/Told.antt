@@ -17,8 +17,8 @@ pub on_each : {world : Parts} {T E : Type 0} (r : Result T E) (P Q : Store → T
 on_each (Ok x) P Q go all = λ store stands. go store stands (all store stands)
 on_each (Err e) P Q go all = tt
 
--- the answer is this one, where there is one, and two things hold
-pub ok_is : {T E : Type 0} (r : Result T E) (is : T) (A B : Type 0) (Q : T → Type 0)
-    → IfOk r (λ x. x ≡ is) → OnOk r A → OnOk r B → (A → B → Q is) → IfOk r Q
-ok_is (Ok x) is A B Q same a b go = subst Q (sym same) (go a b)
-ok_is (Err e) is A B Q same a b go = tt
+-- the answer is this one, where there is one, and three things hold
+pub ok_is : {T E : Type 0} (r : Result T E) (is : T) (A B C : Type 0) (Q : T → Type 0)
+    → IfOk r (λ x. x ≡ is) → OnOk r A → OnOk r B → OnOk r C → (A → B → C → Q is) → IfOk r Q
+ok_is (Ok x) is A B C Q same a b c go = subst Q (sym same) (go a b c)
+ok_is (Err e) is A B C Q same a b c go = tt

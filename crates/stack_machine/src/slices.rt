@@ -16,7 +16,7 @@ use ck_code::{Code, CodeParts};
 use ck_values::{Place, Trap};
 use fixed_point::Memory;
 use loop_steps::{counted_to, go_on_with_int, int_put};
-use machine_world::{Acts, Course, Stop, World, frames, item_at, step_in, steps_at};
+use machine_world::{Acts, Course, Stop, World, item_at, step_in, steps_at};
 use shred_state::Shred;
 use std::alloc::Global;
 
@@ -42,8 +42,8 @@ fn run(
         OnOk result (world.new.ran ≡ counted world.old.ran more) }
 {
     let parts = code.parts();
-    let mut steps = steps_at(parts, frames::fun(shred));
-    let mut here = frames::place(shred);
+    let mut steps = steps_at(parts, shred.fun());
+    let mut here = shred.place();
     let mut from = here;
     let mut stop = Stop::Ended;
     let mut begun: u64 = 0;
@@ -51,7 +51,7 @@ fn run(
         let at = step_in(steps, here);
         if let Some(n) = int_put(shred, &at.instr) {
             if go_on_with_int(code, steps, shred, &mut here, &mut from, &mut begun, n)? {
-                steps = steps_at(parts, frames::fun(shred));
+                steps = steps_at(parts, shred.fun());
             }
             continue 'run;
         }
@@ -59,13 +59,13 @@ fn run(
             Course::Ahead => here += 1,
             Course::Apart => {
                 begun = counted_to(begun, from, here);
-                here = frames::place(shred);
+                here = shred.place();
                 from = here;
             }
             Course::Elsewhere => {
                 begun = counted_to(begun, from, here);
-                steps = steps_at(parts, frames::fun(shred));
-                here = frames::place(shred);
+                steps = steps_at(parts, shred.fun());
+                here = shred.place();
                 from = here;
             }
             Course::Over => {
@@ -77,14 +77,15 @@ fn run(
 }
 
 // Where a shred stopped: at the instruction before the one at which it goes on.
+#[tactic(auto, unfolding(machine_world::specs::Shown::shown))]
 fn stopped_at(code: &CodeParts, shred: &Shred) -> Place
     ensures { result ≡ stopped_at code.now (frames_of (shown shred.now)) }
 {
     let nowhere = Place { file: 0, line: 1 };
-    let Some(fun) = item_at(code.funs.items(), frames::fun(shred) as usize) else {
+    let Some(fun) = item_at(code.funs.items(), shred.fun() as usize) else {
         return nowhere;
     };
-    match item_at(fun.code.items(), frames::place(shred).saturating_sub(1)) {
+    match item_at(fun.code.items(), shred.place().saturating_sub(1)) {
         Some(step) => step.place,
         None => nowhere,
     }
@@ -118,8 +119,8 @@ pub fn slice(
     ensures ran { OnOk result ((store : Store) → StandsFor world.old store →
         world.new.ran ≡ counted world.old.ran (begun_of code.now shred.old store)) }
 {
-    frames::refresh(shred, world.now());
-    if !frames::spend(shred) {
+    shred.fresh(world.now());
+    if !shred.spend() {
         let stopped = stopped_at(code.parts(), shred);
         return Ok(Stop::Trapped(Trap::Turns, stopped));
     }

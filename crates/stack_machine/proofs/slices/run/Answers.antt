@@ -18,6 +18,7 @@ use Rattle.machine_world.specs.declared.course.Then.{Then}
 use Rattle.machine_world.specs.declared.course.Then.TheVariants.{GoesOn, Moves, Stopped}
 use Rattle.machine_world.proofs.Runnable.{runnable_at}
 use Rattle.machine_world.proofs.Stands.{each_so}
+use Rattle.loop_steps.proofs.Meant.{fun_meant, place_meant}
 use Rattle.loop_steps.proofs.Runs.{good, has_step, has_fun, found_in, next_in, counted_twice}
 use Rattle.loop_steps.proofs.OnInts.{LeadsTo, one_on, counted_on, alike_on, one_lower, effect_there, puts}
 use Rattle.stack_machine.proofs.Gone.{starts, then_on, none_more}
@@ -54,7 +55,7 @@ followed : (c : In_ok-step) (then : Then) → joined c.in_ok-step.field-0 c.step
     (state_of c.run.shred store c.run.acts)) c.step_in-at.result.now.place c.step.new.shred after
     c.step.new.acts)
 followed c then is store stands =
-    let one = c.in_ok-step.ensures.follows store stands in
+    let one = c.in_ok-step.ensures.carries.follows store stands in
     record {
       store = one.store;
       stands = one.stands;
@@ -75,7 +76,7 @@ leads_on c is store stands =
     record {
       store = one.store;
       stands = one.stands;
-      so = record { number = c.in_ok-step.ensures.same.number; next = one.so };
+      so = record { number = c.in_ok-step.ensures.carries.same.number; next = one.so };
     }
 
 leads_off : (c : In_ok-step) → joined c.in_ok-step.field-0 c.step.new.stop ≡ Moves
@@ -85,7 +86,7 @@ leads_off c is store stands =
     record {
       store = one.store;
       stands = one.stands;
-      so = record { number = c.in_ok-step.ensures.same.number; next = one.so };
+      so = record { number = c.in_ok-step.ensures.carries.same.number; next = one.so };
     }
 
 -- what all that lead on keep of the slice
@@ -179,9 +180,9 @@ pub run-init : goal.run-init
 run-init c = record {
   steps = ap (λ parts. steps_of (slice_get parts.funs (shown c.args.shred.now).top.fun))
       (sym c.parts-parts.ensures.parts)
-      ∙ ap (λ f. steps_of (slice_get c.parts-parts.result.now.funs f)) (sym c.fun.ensures)
+      ∙ ap (λ f. steps_of (slice_get c.parts-parts.result.now.funs f)) (sym (fun_meant _ _ c.fun.ensures))
       ∙ c.steps_at-steps.ensures;
-  here = c.place-here.ensures;
+  here = place_meant _ _ c.place-here.ensures;
   from = omega arith;
   same = record { number = refl; parent = refl; last = refl };
   ran = refl;
@@ -203,7 +204,7 @@ go_on_with_int-requires-clause-over c =
 pub steps_at-steps-requires-then-branch : goal.steps_at-steps-requires-then-branch
 steps_at-steps-requires-then-branch c =
     let over = c.run.invariant.over in
-    rw (c.parts-parts.ensures.parts, c.fun-then-branch.ensures)
+    rw (c.parts-parts.ensures.parts, fun_meant c.go_on_with_int.new.shred _ c.fun-then-branch.ensures)
     (has_fun c.args.code.now c.go_on_with_int.new.shred _
     (c.in_ok-go_on_with_int.ensures.gone (state_of c.run.shred over.store c.run.acts)
     (int_over (goal.at.steps_at-steps-requires-then-branch c).In-Some over.store over.so)).over)
@@ -230,7 +231,7 @@ run-preserved-then-branch c =
     let parts = c.parts-parts.result.now in
     record {
       steps = ap (λ parts. steps_of (slice_get parts.funs fun)) (sym c.parts-parts.ensures.parts)
-          ∙ ap (λ f. steps_of (slice_get parts.funs f)) (sym c.fun-then-branch.ensures)
+          ∙ ap (λ f. steps_of (slice_get parts.funs f)) (sym (fun_meant _ _ c.fun-then-branch.ensures))
           ∙ c.steps_at-steps-then-branch.ensures;
       here = then.here;
       from = then.from;
@@ -311,7 +312,7 @@ run-preserved-else-branch c =
 
 pub steps_at-steps-requires : goal.steps_at-steps-requires
 steps_at-steps-requires c =
-    rw (c.parts-parts.ensures.parts, c.fun.ensures)
+    rw (c.parts-parts.ensures.parts, fun_meant c.args.shred.now _ c.fun.ensures)
     (has_fun c.args.code.now c.args.shred.now _ c.requires.over.so)
 
 pub step_in-at-requires : goal.step_in-at-requires
@@ -320,31 +321,34 @@ step_in-at-requires c =
     rw (← c.run.invariant.steps, c.run.invariant.here)
     (has_step code (shown c.run.shred).number (enough code) c.run.shred _ c.run.invariant.over.so)
 
-pub step-requires-clause-good : goal.step-requires-clause-good
-step-requires-clause-good c =
+pub step-requires-clause-can : goal.step-requires-clause-can
+unfolding shown
+step-requires-clause-can c =
+    let there = (goal.at.step-requires-clause-can c).After-step_in-at in
     let code = c.args.code.now in
+    let shred = c.run.shred in
     let over = c.run.invariant.over in
+    let parts = c.parts-parts.ensures.parts in
     record {
       store = over.store;
       stands = over.stands;
-      so = subst IsGood (next (goal.at.step-requires-clause-good c).After-step_in-at over.store)
-          (good code (shown c.run.shred).number (enough code) _ _ over.so);
+      good = subst IsGood (next there over.store)
+          (good code (shown shred).number (enough code) _ _ over.so);
+      runs = runnable_at c.parts-parts.result.now (shown shred).top.fun (shown shred).top.place _
+          (subst IsVerified (sym parts) c.parts-parts.ensures.verified)
+          (ap (λ code. step_at code (shown shred).top.fun (shown shred).top.place) parts
+          ∙ here there);
+      room = omega (arith, c.run.invariant.here, c.step_in-at.ensures.within);
     }
 
-pub step-requires-clause-runs : goal.step-requires-clause-runs
-step-requires-clause-runs c =
-    let fun = (shown c.run.shred).top.fun in
-    let place = (shown c.run.shred).top.place in
-    let parts = c.parts-parts.ensures.parts in
-    runnable_at c.parts-parts.result.now fun place _
-    (subst IsVerified (sym parts) c.parts-parts.ensures.verified)
-    (ap (λ code. step_at code fun place) parts
-    ∙ here (goal.at.step-requires-clause-runs c).After-step_in-at)
+pub step-requires-clause-here : goal.step-requires-clause-here
+unfolding shown
+step-requires-clause-here c = c.run.invariant.here
 
 pub steps_at-steps-requires-in-Elsewhere : goal.steps_at-steps-requires-in-Elsewhere
 steps_at-steps-requires-in-Elsewhere c =
     let there = (goal.at.steps_at-steps-requires-in-Elsewhere c).In_ok-step in
-    rw (c.parts-parts.ensures.parts, c.fun-in-Elsewhere.ensures)
+    rw (c.parts-parts.ensures.parts, fun_meant c.step.new.shred _ c.fun-in-Elsewhere.ensures)
     (has_fun c.args.code.now c.step.new.shred _ (over_then there (leads_off there
     (ap (λ course. joined course c.step.new.stop) c.in-Elsewhere.is))).so)
 
@@ -358,9 +362,9 @@ run-preserved-in-Ahead c =
     let there = (goal.at.run-preserved-in-Ahead c).In_ok-step in
     let leads = leads_on there (ap (λ course. joined course c.step.new.stop) c.in-Ahead.is) in
     let before = c.run.invariant in
-    let same = c.in_ok-step.ensures.same in
+    let same = c.in_ok-step.ensures.carries.same in
     let stays = stays_as _ GoesOn _ _ (ap (λ course. joined course c.step.new.stop) c.in-Ahead.is)
-    c.in_ok-step.ensures.stays in
+    c.in_ok-step.ensures.carries.stays in
     record {
       steps = ap (λ f. steps_of (slice_get c.args.code.now.funs f)) stays ∙ before.steps;
       here = ap (λ n. n + 1) before.here ∙ sym (subst (λ course. IsAhead course c.run.shred
@@ -372,7 +376,7 @@ run-preserved-in-Ahead c =
         parent = same.parent ∙ before.same.parent;
         last = same.last ∙ before.same.last;
       };
-      ran = c.in_ok-step.ensures.ran ∙ before.ran;
+      ran = c.in_ok-step.ensures.carries.ran ∙ before.ran;
       over = over_then there leads;
       gone = gone_then there leads;
     }
@@ -387,19 +391,19 @@ run-preserved-in-Apart c =
     let there = (goal.at.run-preserved-in-Apart c).In_ok-step in
     let leads = leads_on there (ap (λ course. joined course c.step.new.stop) c.in-Apart.is) in
     let before = c.run.invariant in
-    let same = c.in_ok-step.ensures.same in
+    let same = c.in_ok-step.ensures.carries.same in
     let stays = stays_as _ GoesOn _ _ (ap (λ course. joined course c.step.new.stop) c.in-Apart.is)
-    c.in_ok-step.ensures.stays in
+    c.in_ok-step.ensures.carries.stays in
     record {
       steps = ap (λ f. steps_of (slice_get c.args.code.now.funs f)) stays ∙ before.steps;
-      here = c.place-here-in-Apart.ensures;
+      here = place_meant _ _ c.place-here-in-Apart.ensures;
       from = omega arith;
       same = record {
         number = same.number ∙ before.same.number;
         parent = same.parent ∙ before.same.parent;
         last = same.last ∙ before.same.last;
       };
-      ran = c.in_ok-step.ensures.ran ∙ before.ran;
+      ran = c.in_ok-step.ensures.carries.ran ∙ before.ran;
       over = over_then there leads;
       gone = counted_then there leads _ c.place-here-in-Apart.result c.counted_to-begun.ensures;
     }
@@ -414,21 +418,21 @@ run-preserved c =
     let there = (goal.at.run-preserved c).In_ok-step in
     let leads = leads_off there (ap (λ course. joined course c.step.new.stop) c.in-Elsewhere.is) in
     let before = c.run.invariant in
-    let same = c.in_ok-step.ensures.same in
+    let same = c.in_ok-step.ensures.carries.same in
     let fun = (shown c.step.new.shred).top.fun in
     let parts = c.parts-parts.result.now in
     record {
       steps = ap (λ parts. steps_of (slice_get parts.funs fun)) (sym c.parts-parts.ensures.parts)
-          ∙ ap (λ f. steps_of (slice_get parts.funs f)) (sym c.fun-in-Elsewhere.ensures)
+          ∙ ap (λ f. steps_of (slice_get parts.funs f)) (sym (fun_meant _ _ c.fun-in-Elsewhere.ensures))
           ∙ c.steps_at-steps-in-Elsewhere.ensures;
-      here = c.place-here-in-Elsewhere.ensures;
+      here = place_meant _ _ c.place-here-in-Elsewhere.ensures;
       from = omega arith;
       same = record {
         number = same.number ∙ before.same.number;
         parent = same.parent ∙ before.same.parent;
         last = same.last ∙ before.same.last;
       };
-      ran = c.in_ok-step.ensures.ran ∙ before.ran;
+      ran = c.in_ok-step.ensures.carries.ran ∙ before.ran;
       over = over_then there leads;
       gone = counted_then there leads _ c.place-here-in-Elsewhere.result
           c.counted_to-begun-in-Elsewhere.ensures;
@@ -440,7 +444,7 @@ returns-in-Over-clause-ends c = λ store stands.
     let stop = c.step.new.stop in
     let there = (goal.at.returns-in-Over-clause-ends c).In_ok-step in
     let behind =
-    stays_as _ (Stopped stop) _ _ (ap (λ course. joined course stop) c.in-Over.is) c.in_ok-step.ensures.stays in
+    stays_as _ (Stopped stop) _ _ (ap (λ course. joined course stop) c.in-Over.is) c.in_ok-step.ensures.carries.stays in
     let before = c.run.invariant.gone store stands (each_so _ _ c.requires.over store stands) in
     let one = followed there (Stopped stop) (ap (λ course. joined course stop) c.in-Over.is)
     before.store before.stands in
@@ -467,7 +471,7 @@ returns-in-Over-clause-ran c = λ store stands.
     let all = c.counted_to.ensures
     ∙ ap (λ more. counted c.run.begun ((c.run.here - c.run.from) + more)) (sym one)
     ∙ before.so.counts in
-    let ran = c.in_ok-step.ensures.ran ∙ c.run.invariant.ran in
+    let ran = c.in_ok-step.ensures.carries.ran ∙ c.run.invariant.ran in
     ap (λ w. w.ran) c.count.ensures.ran
     ∙ ap (λ ran. counted ran c.counted_to.result) ran
     ∙ ap (counted c.args.world.now.ran) all ∙ counted_twice c.args.world.now.ran _
