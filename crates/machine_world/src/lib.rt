@@ -11,7 +11,6 @@
 mod acts;
 mod course;
 mod fetch;
-pub mod frames;
 mod readers;
 mod shreds;
 mod units;
