@@ -1,5 +1,5 @@
 -- Arrays with other items, by what the bodies of a heap stand for.
-use Rattle.std.proofs.Common.{◌≡◌, ℕ, ℤ, zero, suc, pos, negsuc, ◌+ℤ◌, ◌+◌, ◌-◌, ◌≤◌, ◌<◌, true, false, List, [], ◌∷◌, ◌++◌, length, map, Option, Some, None, IfSome, IsNone, IsSomeAnd, ◌↔◌, refl, ap, sym, ◌∙◌, arith, slice_get, slice_set, int_le}
+use Rattle.std.proofs.Common.{◌≡◌, ℕ, ℤ, zero, suc, pos, negsuc, ◌+ℤ◌, ◌+◌, ◌-◌, ◌≤◌, ◌<◌, true, false, List, [], ◌∷◌, ◌++◌, length, map, Option, Some, None, IfSome, IsNone, IsSomeAnd, ◌↔◌, refl, ap, sym, subst, ◌∙◌, arith, slice_get, slice_set, int_le}
 use Rattle.std.proofs.lemmas.Bool.Decides.{nat_tests}
 use Rattle.std.proofs.lemmas.List.{map-set, map-append, length-append, set_past}
 use Rattle.ck_base.specs.declared.limits.TheConstants.{MAX_ITEMS}
@@ -17,7 +17,8 @@ use Rattle.object_heap.specs.declared.body.Body.{Body}
 use Rattle.object_heap.specs.declared.body.Body.TheVariants.{Array}
 use Rattle.object_heap.specs.Objects.{Objects, object, IsArray, values_of, with_values, with_body}
 use Rattle.value_ops.specs.Ends.{IsGiven, left_over}
-use Rattle.value_ops.specs.Heaps.{shown_body, objects_of, with_heap, IsArrayOf}
+use Rattle.value_ops.specs.Heaps.{shown_body, objects_of, with_heap, IsArrayOf, KeepsUnits}
+use Rattle.value_ops.proofs.Keeps.{units_same, units_put}
 use Rattle.value_ops.proofs.Wants.{is_given}
 use Rattle.value_ops.proofs.Items.{length_meant, set_meant, of_found, object_at, IsAt, is_at, line, array_is, past_so, at_here, at_out, item_here, item_out}
 
@@ -152,6 +153,17 @@ got_here heap r items z i old first a is was =
 pub first_set : (heap new : Objects) (r : Ref) (items : List Value) (i : ℕ) (v : Value)
     → IsArrayOf heap r items → IsSet heap r i v new → new.first ≡ heap.first
 first_set heap new r items i v a set = ap (λ h. h.first) (new_set heap new r items i v a set)
+
+-- other items in an array change no unit generator
+pub units_array : (heap new : Objects) (r : Ref) (items more : List Value) (a : IsArrayOf heap r items)
+    → new ≡ with_more heap r items a more → KeepsUnits heap new
+units_array heap new r items more a is =
+    subst (KeepsUnits heap) (sym is) (units_put heap r (Array a.elem a.two items) more a.is)
+
+pub units_set : (heap new : Objects) (r : Ref) (items : List Value) (i : ℕ) (v : Value)
+    → IsArrayOf heap r items → IsSet heap r i v new → KeepsUnits heap new
+units_set heap new r items i v a set =
+    units_array heap new r items (slice_set items i v) a (new_set heap new r items i v a set)
 
 pub within_set : (heap : Objects) (r : Ref) (items : List Value) (i : ℕ) → IsArrayOf heap r items
     → i < length items → IsSomeAnd (object heap r) (λ body. i < length (values_of body))
@@ -307,6 +319,11 @@ pub first_grown : (heap new : Objects) (r : Ref) (items : List Value) (v : Value
     → IsArrayOf heap r items → IsGrown heap r v new → new.first ≡ heap.first
 first_grown heap new r items v a set = ap (λ h. h.first) (new_grown heap new r items v a set)
 
+pub units_grown : (heap new : Objects) (r : Ref) (items : List Value) (v : Value)
+    → IsArrayOf heap r items → IsGrown heap r v new → KeepsUnits heap new
+units_grown heap new r items v a set =
+    units_array heap new r items (items ++ v ∷ []) a (new_grown heap new r items v a set)
+
 -- no items any more -------------------------------------------------------------------------------
 
 pub clear_null : (store : Store) (heap : Objects) (r : Ref) (trap : Trap)
@@ -386,6 +403,10 @@ pub clearing_kept : (old new : Objects) (r : Ref) (count done : ℕ)
     → Clearing old new r count done → new.first ≡ old.first
 clearing_kept old new r count done k = ap (λ h. h.first) k.is
 
+pub clearing_units : (old new : Objects) (r : Ref) (count done : ℕ)
+    → Clearing old new r count done → KeepsUnits old new
+clearing_units old new r count done k = units_array old new r k.items k.rest k.array k.is
+
 set_twice : {A : Type 0} → (xs : List A) (i : ℕ) (x y : A)
     → slice_set (slice_set xs i x) i y ≡ slice_set xs i y
 set_twice [] i x y = refl
@@ -462,6 +483,8 @@ pub ruleset changes = (
   set_out,
   set_here,
   first_set,
+  units_same,
+  units_set,
   within_set,
   fill_null,
   fill_here,
@@ -472,6 +495,7 @@ pub ruleset changes = (
   append_full,
   append_here,
   first_grown,
+  units_grown,
   clear_null,
   array_set,
 )

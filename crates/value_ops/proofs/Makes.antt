@@ -1,5 +1,5 @@
 -- New arrays, by what their bodies stand for.
-use Rattle.std.proofs.Common.{◌≡◌, ℕ, ℤ, zero, suc, pos, negsuc, ◌+◌, ◌-◌, ◌*◌, ◌≤◌, ◌<◌, nat_lt, int_lt, int_le, unsigned_abs, min, ◌^◌, true, false, Bool, ◌&&◌, List, [], ◌∷◌, ◌++◌, replicate, length, map, Option, Some, None, IsSomeAnd, refl, ap, subst, sym, ◌∙◌, arith, slice_get}
+use Rattle.std.proofs.Common.{◌≡◌, ℕ, ℤ, suc, pos, negsuc, ◌+◌, ◌-◌, ◌*◌, ◌≤◌, ◌<◌, nat_lt, int_lt, int_le, unsigned_abs, min, ◌^◌, true, false, Bool, ◌&&◌, List, [], ◌∷◌, ◌++◌, replicate, length, map, Option, Some, None, IsSomeAnd, refl, ap, subst, sym, ◌∙◌, arith, slice_get}
 use Rattle.std.proofs.lemmas.Bool.Decides.{nat_tests}
 use Rattle.std.proofs.lemmas.List.{length-map, map-append}
 use Rattle.ck_base.specs.declared.limits.TheConstants.{MAX_OBJECTS, MAX_ITEMS}
@@ -19,10 +19,11 @@ use Rattle.object_heap.specs.Objects.{Objects, object, next, MakesObject, IsArra
 use Rattle.value_ops.specs.declared.end.OpEnd.{OpEnd}
 use Rattle.value_ops.specs.declared.end.OpEnd.TheVariants.{Trap, Memory}
 use Rattle.value_ops.specs.Ends.{IsGiven, IsEnd, OnTrap, IsPartEnd}
-use Rattle.value_ops.specs.Heaps.{shown_body, objects_of, with_heap}
+use Rattle.value_ops.specs.Heaps.{shown_body, objects_of, with_heap, KeepsUnits}
+use Rattle.value_ops.proofs.Keeps.{units_same, units_then, units_made, get_before}
 use Rattle.value_ops.proofs.Wants.{is_given}
 use Rattle.value_ops.proofs.Items.{object_at, is_at, Held}
-use Rattle.value_ops.proofs.Changes.{IsGrown, new_grown, set_there, first_grown, grown_here}
+use Rattle.value_ops.proofs.Changes.{IsGrown, new_grown, set_there, first_grown, units_grown, grown_here}
 
 -- one object more ---------------------------------------------------------------------------------
 
@@ -106,13 +107,6 @@ pub first_made : (heap new : Objects) (at : Ref) (b : Body) → MakesObject heap
     → new.first ≡ heap.first
 first_made heap new at b m = ap (λ h. h.first) m.objects
 
--- the other objects are still there
-get_before : {A : Type 0} → (xs ys : List A) (i : ℕ) (x : A) → slice_get xs i ≡ Some x
-    → slice_get (xs ++ ys) i ≡ Some x
-get_before [] ys i x is = absurd (cc)
-get_before (z ∷ xs) ys zero x is = is
-get_before (z ∷ xs) ys (suc i) x is = get_before xs ys i x is
-
 get_last : {A : Type 0} → (xs : List A) (x : A) → slice_get (xs ++ x ∷ []) (length xs) ≡ Some x
 get_last [] x = refl
 get_last (z ∷ xs) x = get_last xs x
@@ -175,6 +169,11 @@ pub grown_first : (heap new : Objects) (r : Ref) (v : Value) → IsSomeAnd (obje
     → IsGrown heap r v new → new.first ≡ heap.first
 grown_first heap new r v fits set =
     let h = held_array heap r fits in first_grown heap new r h.items v h.is set
+
+pub grown_units : (heap new : Objects) (r : Ref) (v : Value) → IsSomeAnd (object heap r) IsArray
+    → IsGrown heap r v new → KeepsUnits heap new
+grown_units heap new r v fits set =
+    let h = held_array heap r fits in units_grown heap new r h.items v h.is set
 
 -- sizes -------------------------------------------------------------------------------------------
 
@@ -329,6 +328,7 @@ added_row store old mid new at r e m items v so made first fits is set =
 pub record Adding (old new : Objects) (r : Ref) (rows : ℕ) (e : Elem) (columns done : ℕ)
     : Type 0 where
   pub first : new.first ≡ old.first
+  pub units : KeepsUnits old new
   pub array : IsSomeAnd (object new r) IsArray
   pub so : (store : Store) → rows_added rows e columns (ARef r.serial) (with_heap store old)
       ≡ rows_added (rows - done) e columns (ARef r.serial) (with_heap store new)
@@ -337,6 +337,7 @@ pub adding_first : (heap : Objects) (r : Ref) (rows : ℕ) (e : Elem) (columns :
     → IsSomeAnd (object heap r) IsArray → Adding heap heap r rows e columns 0
 adding_first heap r rows e columns fits = record {
   first = refl;
+  units = units_same heap heap refl;
   array = fits;
   so = λ store. let none : rows ≡ rows - 0 = omega arith in ap
       (λ n. rows_added n e columns (ARef r.serial) (with_heap store heap)) none;
@@ -351,12 +352,13 @@ rest_so store rest e columns g n is = ap (λ n. rows_added n e columns g store) 
 
 pub adding_step : (old mid new : Objects) (r : Ref) (rows : ℕ) (e : Elem) (columns done : ℕ)
     → done < rows → Adding old mid r rows e columns done → new.first ≡ mid.first
-    → IsSomeAnd (object new r) IsArray
+    → KeepsUnits mid new → IsSomeAnd (object new r) IsArray
     → ((store : Store) → row_added e columns (ARef r.serial) (with_heap store mid) ≡ Gives
     (with_heap store new))
     → Adding old new r rows e columns (done + 1)
-adding_step old mid new r rows e columns done more k first fits one = record {
+adding_step old mid new r rows e columns done more k first units fits one = record {
   first = first ∙ k.first;
+  units = units_then old mid new k.units units;
   array = fits;
   so = λ store. let count : rows - done ≡ suc (rows - (done + 1)) = omega arith in
       k.so store
@@ -485,4 +487,8 @@ pub ruleset makes = (
   new_array,
   grown_array,
   grown_first,
+  units_same,
+  units_then,
+  units_made,
+  grown_units,
 )

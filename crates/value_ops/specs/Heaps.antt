@@ -1,5 +1,5 @@
 -- The objects of a heap, as a store has them.
-use Rattle.std.specs.Prelude.{◌≡◌, Bool, List, map, Some}
+use Rattle.std.specs.Prelude.{◌≡◌, ℕ, Bool, List, map, Some}
 use Rattle.ck_values.specs.declared.kind.Elem.{Elem}
 use Rattle.ck_values.specs.declared.reference.Ref.{Ref}
 use Rattle.ck_values.specs.declared.value.Value.{Value}
@@ -28,3 +28,8 @@ pub record IsArrayOf (heap : Objects) (r : Ref) (items : List Value) : Type 0 wh
   pub elem : Elem
   pub two : Bool
   pub is : object heap r ≡ Some (body.Array elem two items)
+
+-- each unit generator is as it was
+pub record KeepsUnits (old new : Objects) : Type 0 where
+  pub kept : (at : Ref) (node : ℕ) → object old at ≡ Some (body.Ugen node)
+      → object new at ≡ Some (body.Ugen node)

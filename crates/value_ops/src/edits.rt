@@ -5,7 +5,7 @@ ghost use Rattle.ck_store.specs.Store.{Store, Gives, Fails, IsFitting};
 ghost use Rattle.ck_store.specs.Operators.{wrapped};
 ghost use Rattle.ck_store.specs.Arrays.{array_at, item_of, with_item, appended, cleared, filled};
 ghost use Rattle.value_ops.specs.Ends.{IsEnd, left_over};
-ghost use Rattle.value_ops.specs.Heaps.{objects_of, with_heap};
+ghost use Rattle.value_ops.specs.Heaps.{objects_of, with_heap, KeepsUnits};
 
 use crate::arrays::{items_of, place_of};
 use crate::end::OpEnd;
@@ -30,6 +30,7 @@ pub fn set_item(heap: &mut Heap, at: Ref, index: i64, v: Value) -> Result<Value,
         ≡ Fails e.0) × (e.1 ≡ v)) }
     ensures same { OnErr result (heap.new ≡ heap.old) }
     ensures first { heap.new.first ≡ heap.old.first }
+    ensures units { KeepsUnits heap.old heap.new }
 {
     let n = match items_of(heap, at) {
         Ok(items) => items.len(),
@@ -56,6 +57,7 @@ pub fn append(heap: &mut Heap, at: Ref, v: Value) -> Result<(), (OpEnd, Value)>
         × (e.1 ≡ v)) }
     ensures same { OnErr result (heap.new ≡ heap.old) }
     ensures first { heap.new.first ≡ heap.old.first }
+    ensures units { KeepsUnits heap.old heap.new }
 {
     let n = match items_of(heap, at) {
         Ok(items) => items.len(),
@@ -82,6 +84,7 @@ pub fn clear(heap: &mut Heap, at: Ref) -> Result<(), Trap>
         cleared (with_heap store heap.old) (ARef at.serial) ≡ Fails trap) }
     ensures same { OnErr result (heap.new ≡ heap.old) }
     ensures first { heap.new.first ≡ heap.old.first }
+    ensures units { KeepsUnits heap.old heap.new }
 {
     let n = items_of(heap, at)?.len();
     for _ in 0..n {
@@ -111,6 +114,7 @@ pub fn fill(heap: &mut Heap, at: Ref, index: i64, v: Value) -> Result<Value, (Tr
         ≡ Fails e.0) × (e.1 ≡ v)) }
     ensures same { OnErr result (heap.new ≡ heap.old) }
     ensures first { heap.new.first ≡ heap.old.first }
+    ensures units { KeepsUnits heap.old heap.new }
 {
     let n = match items_of(heap, at) {
         Ok(items) => items.len(),

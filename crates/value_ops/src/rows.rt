@@ -8,7 +8,7 @@ ghost use Rattle.ck_store.specs.Arrays.{sizes_of, grid_made, row_added, rows_add
 ghost use Rattle.object_heap.specs.declared.body.Body.TheVariants.{Array};
 ghost use Rattle.object_heap.specs.Objects.{object, IsArray, MakesObject};
 ghost use Rattle.value_ops.specs.Ends.{IsGiven, IsEnd, OnTrap, OnWant, IsPartEnd};
-ghost use Rattle.value_ops.specs.Heaps.{with_heap};
+ghost use Rattle.value_ops.specs.Heaps.{with_heap, KeepsUnits};
 
 use crate::end::OpEnd;
 use ck_base::limits::MAX_ITEMS;
@@ -60,6 +60,7 @@ pub fn array(heap: &mut Heap, elem: Elem, two: bool, items: List<Value>) -> Resu
         IsEnd true end (array_made elem two (all_meant items) (with_heap store heap.old))) }
     ensures same { OnErr result (heap.new ≡ heap.old) }
     ensures first { heap.new.first ≡ heap.old.first }
+    ensures units { KeepsUnits heap.old heap.new }
 {
     match heap.make(Body::Array { elem, two, items }) {
         Ok(at) => Ok(at),
@@ -80,6 +81,7 @@ pub fn row(alloc: Global, heap: &mut Heap, elem: Elem, n: i64) -> Result<Ref, Op
         IsEnd true end (row_made elem (AnInt n) (with_heap store heap.old))) }
     ensures same { OnErr result (heap.new ≡ heap.old) }
     ensures first { heap.new.first ≡ heap.old.first }
+    ensures units { KeepsUnits heap.old heap.new }
 {
     let n = size_of(n)?;
     if heap.is_full() {
@@ -131,6 +133,7 @@ pub fn grid(alloc: Global, heap: &mut Heap, elem: Elem, n: i64, m: i64) -> Resul
         (with_heap store heap.new)) }
     ensures sizes { IfErr result (λ end. OnWant end (IsGiven (sizes_of (AnInt n) (AnInt m)))) }
     ensures first { heap.new.first ≡ heap.old.first }
+    ensures units { KeepsUnits heap.old heap.new }
 {
     let (rows, columns) = sizes(n, m)?;
     let items = List::from_vec(Vec::with_capacity(alloc, rows)?);
@@ -158,6 +161,7 @@ fn add_rows(
         IsPartEnd end (rows_added rows elem columns (ARef grid.serial) (with_heap store heap.old))
         (with_heap store heap.new)) }
     ensures first { heap.new.first ≡ heap.old.first }
+    ensures units { KeepsUnits heap.old heap.new }
 {
     for _ in 0..rows {
         add_row(alloc, heap, elem, columns, grid)?;
@@ -184,6 +188,7 @@ fn add_row(
     ensures same { IfErr result (λ end. OnTrap end (λ trap. heap.new ≡ heap.old)) }
     ensures array { OnOk result (IsSomeAnd (object heap.new grid) IsArray) }
     ensures first { heap.new.first ≡ heap.old.first }
+    ensures units { KeepsUnits heap.old heap.new }
 {
     let items = defaults(alloc, elem, columns)?;
     let row = array(heap, elem, false, items)?;

@@ -1,5 +1,5 @@
 use Rattle.std.proofs.lemmas.Result.{err_from_is_err_and}
-use Rattle.value_ops.proofs.Changes.{clearing_first, clearing_still, clearing_kept, clearing_step, clearing_done, clear_null}
+use Rattle.value_ops.proofs.Changes.{clearing_first, clearing_still, clearing_kept, clearing_units, clearing_step, clearing_done, clear_null}
 use Rattle.value_ops.proofs.edits.clear.Goals as goal
 
 pub returns-in_err-n-clause-trap : goal.returns-in_err-n-clause-trap
@@ -31,3 +31,7 @@ returns-clause-cleared c = λ store.
 pub returns-clause-first : goal.returns-clause-first
 returns-clause-first c =
     clearing_kept c.args.heap.now c.loop.heap c.args.at _ _ c.loop.invariant
+
+pub returns-clause-units : goal.returns-clause-units
+returns-clause-units c =
+    clearing_units c.args.heap.now c.loop.heap c.args.at _ _ c.loop.invariant

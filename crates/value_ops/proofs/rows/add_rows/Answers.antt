@@ -1,5 +1,6 @@
 use Rattle.std.proofs.Common.{◌∙◌}
 use Rattle.std.proofs.lemmas.Result.{err_from_is_err_and}
+use Rattle.value_ops.proofs.Keeps.{units_then}
 use Rattle.value_ops.proofs.Makes.{adding_first, adding_step, adding_end, adding_done}
 use Rattle.value_ops.proofs.rows.add_rows.Goals as goal
 
@@ -28,6 +29,7 @@ pub loop-preserved : goal.loop-preserved
 loop-preserved c =
     adding_step c.args.heap.now c.loop.heap c.add_row.new.heap c.args.grid c.args.rows c.args.elem
     c.args.columns c.loop.counter c.loop-test.true c.loop.invariant c.add_row.ensures.first
+    c.add_row.ensures.units
     c.in_ok-add_row.ensures.array c.in_ok-add_row.ensures.added
 
 pub returns-clause-added : goal.returns-clause-added
@@ -37,3 +39,11 @@ returns-clause-added c = λ store.
 
 pub returns-clause-first : goal.returns-clause-first
 returns-clause-first c = c.loop.invariant.first
+
+pub returns-in_err-add_row-clause-units : goal.returns-in_err-add_row-clause-units
+returns-in_err-add_row-clause-units c =
+    units_then c.args.heap.now c.loop.heap c.add_row.new.heap c.loop.invariant.units
+    c.add_row.ensures.units
+
+pub returns-clause-units : goal.returns-clause-units
+returns-clause-units c = c.loop.invariant.units
