@@ -17,6 +17,7 @@ pub mod Stands
 pub mod Follows
 pub mod Stores
 pub mod Picked
+pub mod Joined
 pub mod Places
 pub mod Located
 pub mod Graphs

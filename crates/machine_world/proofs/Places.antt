@@ -1,8 +1,10 @@
--- No place among the unit generators is free, whatever is made, set and heard.
-use Rattle.std.proofs.Common.{◌≡◌, ℕ, zero, suc, ◌≤◌, nat_lt, Bool, true, false, List, [], ◌∷◌, ◌++◌, length, Option, Some, None, Result, Ok, Err, OnOk, if◌then◌else◌, slice_set, refl, ap, sym, ◌∙◌, arith}
+-- No place among the unit generators is free, whatever is made, set and heard; and what is set leaves
+-- the ends of connections with their objects.
+use Rattle.std.proofs.Common.{◌≡◌, ℕ, zero, suc, ◌≤◌, nat_lt, Bool, true, false, List, [], ◌∷◌, ◌++◌, length, Option, Some, None, Result, Ok, Err, OnOk, if◌then◌else◌, slice_set, refl, ap, sym, subst, ◌∙◌, arith}
 use Rattle.std.specs.Prelude.{IsSome, IsSomeAnd, IfSome, OnErr, is_some}
 use Rattle.std.specs.List.{list_all}
 use Rattle.std.proofs.lemmas.Bool.Decides.{nat_tests}
+use Rattle.object_heap.specs.Objects.{Objects}
 use Rattle.ugen_names.specs.declared.table.UgenKind.{UgenKind}
 use Rattle.ugen_kinds.specs.SoundFile.{no_waves}
 use Rattle.ugen_sample.specs.Connection.{Connection}
@@ -14,7 +16,7 @@ use Rattle.ugen_sample.specs.Origins.{origins_of}
 use Rattle.ugen_sample.proofs.Origins.{origins_sampled}
 use Rattle.ugen_graph.specs.declared.link.Link.{Link}
 use Rattle.ugen_graph.specs.Wiring.{Network, filled}
-use Rattle.machine_world.specs.Units.{are_taken}
+use Rattle.machine_world.specs.Units.{are_taken, AreJoined}
 
 -- a place that is free is the next one
 next_free : (units : Units) (n : ℕ) → are_taken units ≡ true → n ≤ length units
@@ -88,26 +90,43 @@ module _ (old new : Network) (n : ℕ) {A : Type 0} (change : UnitState → Opti
   IsPut = IfSome (unit_at old.units n) (λ u. IfSome (change u)
       (λ a. new ≡ record old { units = slice_set old.units n (Some (put u a)) }))
 
-  put_then : (unit : UnitState) (o : Option A) → IsSome o
-      → IfSome o (λ a. new ≡ record old { units = slice_set old.units n (Some (put unit a)) })
-      → are_taken old.units ≡ true → are_taken new.units ≡ true
-  put_then unit None some is all = absurd cc
-  put_then unit (Some a) some is all =
-      ap (λ (g : Network). are_taken g.units) is ∙ taken_set old.units n (put unit a) all
+  -- what holds with whatever unit generator there holds after it
+  put_then : (P : Network → Type 0)
+      → ((u : UnitState) → P (record old { units = slice_set old.units n (Some u) }))
+      → (unit : UnitState) (o : Option A) → IsSome o
+      → IfSome o (λ a. new ≡ record old { units = slice_set old.units n (Some (put unit a)) }) → P new
+  put_then P all unit None some is = absurd cc
+  put_then P all unit (Some a) some is = subst P (sym is) (all (put unit a))
 
-  put_so : (o : Option UnitState) → IsSomeAnd o (λ u. IsSome (change u))
+  put_so : (P : Network → Type 0)
+      → ((u : UnitState) → P (record old { units = slice_set old.units n (Some u) }))
+      → (o : Option UnitState) → IsSomeAnd o (λ u. IsSome (change u))
       → IfSome o (λ u. IfSome (change u)
       (λ a. new ≡ record old { units = slice_set old.units n (Some (put u a)) }))
-      → are_taken old.units ≡ true → are_taken new.units ≡ true
-  put_so None can is all = absurd can
-  put_so (Some u) can is all = put_then u (change u) can is all
+      → P new
+  put_so P all None can is = absurd can
+  put_so P all (Some u) can is = put_then P all u (change u) can is
 
   pub taken_put : IsSomeAnd (unit_at old.units n) (λ u. IsSome (change u)) → IsPut
       → are_taken old.units ≡ true → are_taken new.units ≡ true
-  taken_put can is all = put_so (unit_at old.units n) can is all
+  taken_put can is all =
+      put_so (λ (g : Network). are_taken g.units ≡ true) (λ u. taken_set old.units n u all)
+      (unit_at old.units n) can is
+
+  pub joined_put : (heap : Objects) → IsSomeAnd (unit_at old.units n) (λ u. IsSome (change u)) → IsPut
+      → AreJoined heap old.links → AreJoined heap new.links
+  joined_put heap can is joined =
+      put_so (λ (g : Network). AreJoined heap g.links) (λ u. joined) (unit_at old.units n) can is
 
   pub taken_put_where : {T E : Type 0} (r : Result T E)
       → IsSomeAnd (unit_at old.units n) (λ u. IsSome (change u)) → OnOk r IsPut
       → OnErr r (new ≡ old) → are_taken old.units ≡ true → are_taken new.units ≡ true
   taken_put_where (Ok a) can ok err all = taken_put can ok all
   taken_put_where (Err e) can ok err all = ap (λ (g : Network). are_taken g.units) err ∙ all
+
+  pub joined_put_where : {T E : Type 0} (r : Result T E) (heap : Objects)
+      → IsSomeAnd (unit_at old.units n) (λ u. IsSome (change u)) → OnOk r IsPut
+      → OnErr r (new ≡ old) → AreJoined heap old.links → AreJoined heap new.links
+  joined_put_where (Ok a) heap can ok err joined = joined_put heap can ok joined
+  joined_put_where (Err e) heap can ok err joined =
+      subst (λ (g : Network). AreJoined heap g.links) (sym err) joined

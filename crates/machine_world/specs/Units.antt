@@ -1,14 +1,32 @@
--- The unit generators of a world: that no place is free, and the connections of what a shred made.
-use Rattle.std.specs.Prelude.{ℕ, Bool, not, ◌||◌, filter, is_some}
-use Rattle.std.specs.List.{list_all}
+-- The unit generators of a world: that no place is free, the objects of the connections' ends, and the
+-- connections of what a shred made.
+use Rattle.std.specs.Prelude.{◌≡◌, ℕ, Bool, not, ◌||◌, List, Some, filter, is_some}
+use Rattle.std.specs.List.{All, list_all}
+use Rattle.object_heap.specs.declared.body.Body.TheVariants.{Ugen}
+use Rattle.object_heap.specs.Objects.{Objects, object}
 use Rattle.ugen_sample.specs.Connection.{Connection}
 use Rattle.ugen_sample.specs.UnitState.{Units, unit_at}
+use Rattle.ugen_graph.specs.declared.link.Joint.{Joint}
+use Rattle.ugen_graph.specs.declared.link.Link.{Link}
 use Rattle.ugen_graph.specs.Links.{is_made_by}
 use Rattle.ck_store.specs.Store.{Store}
 
 -- each place has a unit generator
 abbrev pub are_taken : Units → Bool
 are_taken units = list_all is_some units
+
+-- the object of a connection's end is the unit generator at its node
+abbrev pub IsJoined : Objects → Joint → Type 0
+IsJoined heap end = object heap end.at ≡ Some (Ugen end.node)
+
+-- so it is at both ends of a connection
+pub record BothJoined (heap : Objects) (l : Link) : Type 0 where
+  pub from : IsJoined heap l.from
+  pub to : IsJoined heap l.to
+
+-- and at the ends of all connections
+pub record AreJoined (heap : Objects) (links : List Link) : Type 0 where
+  pub each : All (BothJoined heap) links
 
 -- the connection touches a unit generator that this shred made
 abbrev pub touches : Units → (maker : ℕ) → Connection → Bool

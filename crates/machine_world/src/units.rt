@@ -1,11 +1,13 @@
 //! What instructions and the end of a shred do to the unit generators of a world.
-ghost use Rattle.std.specs.Prelude.{◌≡◌, not, filter, IfOk, IfErr, OnOk, OnErr};
+ghost use Rattle.std.specs.Prelude.{◌≡◌, not, filter, Some, IfOk, IfErr, OnOk, OnErr};
 ghost use Rattle.std.specs.Prelude.{MatchResult};
 ghost use Rattle.ck_values.specs.Datum.{meant, ARef};
 ghost use Rattle.ck_typed.specs.WellFormed.{IsMade};
 ghost use Rattle.ck_store.specs.Store.{Gives, Fails, IsFitting};
 ghost use Rattle.ck_store.specs.Graph.{place_at, unit_made, connected, disconnected, parameter_of};
 ghost use Rattle.ck_store.specs.Graph.{parameter_set, unit_keyed, unit_staged};
+ghost use Rattle.object_heap.specs.Objects.{object};
+ghost use Rattle.object_heap.specs.declared.body.Body.TheVariants.{Ugen};
 ghost use Rattle.ugen_graph.specs.Links.{touches};
 ghost use Rattle.value_ops.specs.Ends.{OnTrap};
 ghost use Rattle.value_ops.specs.Heaps.{objects_of};
@@ -27,9 +29,10 @@ use value_ops::OpEnd;
 fn node_of(heap: &Heap, at: Ref) -> Result<usize, Trap>
     requires first { heap.now.first ≡ 1 }
     requires unit { IsFitting (place_at (objects_of heap.now) (ARef at.serial)) }
-    ensures { MatchResult result
+    ensures place { MatchResult result
         (λ node. place_at (objects_of heap.now) (ARef at.serial) ≡ Gives node)
         (λ trap. place_at (objects_of heap.now) (ARef at.serial) ≡ Fails trap) }
+    ensures unit { IfOk result (λ node. object heap.now at ≡ Some (Ugen node)) }
 {
     if at.serial == 0 {
         return Err(Trap::NullPointer);

@@ -7,7 +7,7 @@ ghost use Rattle.ck_store.specs.Store.{first_store, first_objects, Gives, Fails}
 ghost use Rattle.ck_store.specs.Objects.{object_made, referred, field_of, with_field, method_of};
 ghost use Rattle.ck_store.specs.Arrays.{item_of, with_item, appended, item_count, cleared};
 ghost use Rattle.ck_store.specs.Arrays.{has_item, filled, row_made, sizes_of, grid_made, array_made};
-ghost use Rattle.value_ops.specs.Heaps.{shown_body};
+ghost use Rattle.value_ops.specs.Heaps.{shown_body, KeepsUnits};
 ghost use Rattle.value_ops.specs.Ends.{IsGiven, OnTrap, OnWant};
 ghost use Rattle.object_heap.specs.Objects.{MakesObject, next};
 ghost use Rattle.ck_base.specs.declared.limits.TheConstants.{MAX_FILES, MAX_OBJECTS, MAX_SAMPLES};
@@ -40,7 +40,8 @@ use value_ops::{OpEnd, append, array, clear, fill, grid, has_item, item, row, se
 /// their connections, the generator of random words, the numbers of shreds, and the count of the
 /// instructions that were begun.
 ///
-/// Contracts see them as they are, and speak of each store that they stand for.
+/// Contracts see them as they are, and speak of each store that they stand for. In every world the
+/// object at each end of a connection is the unit generator at the end's node.
 #[derive(Drop)]
 pub struct World {
     time: i64,
@@ -57,7 +58,7 @@ pub struct World {
 
 impl Model for World {
     ghost use Rattle.std.specs.Prelude.{◌≡◌, ◌<◌, ◌^◌, IsTrue};
-    ghost use Rattle.machine_world.specs.Units.{are_taken};
+    ghost use Rattle.machine_world.specs.Units.{are_taken, AreJoined};
     ghost use Rattle.machine_world.specs.Worlds.{Parts, HasNumbers};
 
     ghost Value = { Parts };
@@ -74,7 +75,8 @@ impl Model for World {
     } };
 
     ghost invariant = { λ w. (w.ran < 2 ^ 64) × (w.heap.first ≡ 1)
-        × HasNumbers w.time w.sporks w.next_shred × IsTrue (are_taken w.graph.units) };
+        × HasNumbers w.time w.sporks w.next_shred × IsTrue (are_taken w.graph.units)
+        × AreJoined w.heap w.graph.links };
 }
 
 impl World {
@@ -189,6 +191,7 @@ impl World {
 
     /// Makes an object of a class, whose fields begin with their first values; `Trap` comes exactly
     /// where as many objects were made as may be.
+    #[tactic(auto, using(crate::proofs::Joined::joined_kept))]
     pub fn make(&mut self, alloc: Global, code: &CodeParts, class: u32) -> Result<Ref, OpEnd>
         requires { CanDo self.old (object_made code.now.classes class) }
         ensures made { IfOk result (λ at. Does self.old (object_made code.now.classes class)
@@ -271,6 +274,7 @@ impl World {
 
     /// Puts a value in the place of an item of an array, which is handed back; null is a trap, and
     /// so is an index that isn't there: the value is let go then.
+    #[tactic(auto, using(crate::proofs::Joined::joined_kept))]
     pub fn set_item(&mut self, at: Ref, index: &Value, v: Value) -> Result<Value, Trap>
         requires { CanDo self.old
             (λ store. with_item store (ARef at.serial) (meant index.now) (meant v)) }
@@ -320,6 +324,7 @@ impl World {
     }
 
     /// Puts a value at the end of an array; null is a trap, and so is an array that is full.
+    #[tactic(auto, using(crate::proofs::Joined::joined_kept))]
     pub fn append(&mut self, at: Ref, v: Value) -> Result<(), OpEnd>
         requires { CanDo self.old (λ store. appended store (ARef at.serial) (meant v)) }
         ensures grown { OnOk result (Does self.old
@@ -336,6 +341,7 @@ impl World {
     }
 
     /// Takes all items out of an array; null is a trap.
+    #[tactic(auto, using(crate::proofs::Joined::joined_kept))]
     pub fn clear(&mut self, at: Ref) -> Result<(), Trap>
         requires { CanDo self.old (λ store. cleared store (ARef at.serial)) }
         ensures cleared { OnOk result (Does self.old
@@ -350,6 +356,7 @@ impl World {
 
     /// Stores a value in an item of an array, where the array has it, and gives the next index;
     /// null is a trap.
+    #[tactic(auto, using(crate::proofs::Joined::joined_kept))]
     pub fn fill(&mut self, at: Ref, index: &Value, v: Value) -> Result<i64, Trap>
         requires { CanDo self.old
             (λ store. filled store (ARef at.serial) (meant index.now) (meant v)) }
@@ -373,6 +380,7 @@ impl World {
 
     /// Makes an array of so many first values; a size that may not be is a trap, and so is an
     /// object after all that may be made.
+    #[tactic(auto, using(crate::proofs::Joined::joined_kept))]
     pub fn make_row(&mut self, alloc: Global, elem: Elem, n: i64) -> Result<Ref, OpEnd>
         ensures made { IfOk result (λ at. Does self.old (row_made elem (AnInt n))
             (λ after. record { reference = ARef at.serial; store = after }) self.new) }
@@ -384,6 +392,7 @@ impl World {
     }
 
     /// Makes an array of arrays of first values; a trap leaves what was made before it.
+    #[tactic(auto, using(crate::proofs::Joined::joined_kept))]
     pub fn make_grid(&mut self, alloc: Global, elem: Elem, n: i64, m: i64) -> Result<Ref, OpEnd>
         ensures made { IfOk result (λ at. DoesPartly self.old
             (grid_made elem (AnInt n) (AnInt m)) (Gives (ARef at.serial)) self.new) }
@@ -397,6 +406,7 @@ impl World {
     }
 
     /// Makes an array of these items, or of arrays; an object after all that may be made is a trap.
+    #[tactic(auto, using(crate::proofs::Joined::joined_kept))]
     pub fn make_array(&mut self, elem: Elem, two: bool, items: List<Value>) -> Result<Ref, OpEnd>
         ensures made { IfOk result (λ at. Does self.old (array_made elem two (all_meant items))
             (λ after. record { reference = ARef at.serial; store = after }) self.new) }
@@ -455,12 +465,14 @@ impl World {
 }
 
 /// Adds an object with this body, which is let go where none is added.
+#[tactic(auto, using(crate::proofs::Joined::keeps))]
 pub(crate) fn add_object(heap: &mut Heap, body: Body) -> Result<Ref, OpEnd>
     ensures made { IfOk result (λ at. MakesObject heap.old body at heap.new) }
     ensures limit { IfErr result (λ end.
         OnTrap end (λ trap. (trap ≡ ObjectLimit) × (MAX_OBJECTS < next heap.old))) }
     ensures room { IfErr result (λ end. OnWant end (next heap.old ≤ MAX_OBJECTS)) }
     ensures same { OnErr result (heap.new ≡ heap.old) }
+    ensures units { KeepsUnits heap.old heap.new }
 {
     match heap.make(body) {
         Ok(at) => Ok(at),

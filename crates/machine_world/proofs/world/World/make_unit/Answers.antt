@@ -10,6 +10,7 @@ use Rattle.value_ops.proofs.Wants.{not_past}
 use Rattle.machine_world.specs.Units.{are_taken}
 use Rattle.machine_world.specs.Worlds.{store_of}
 use Rattle.machine_world.proofs.Graphs.{unit_added, unit_refused, unit_given}
+use Rattle.machine_world.proofs.Joined.{joined_same, joined_kept}
 use Rattle.machine_world.proofs.Made.{ends_so, no_trap, made_first}
 use Rattle.machine_world.proofs.Places.{at_end, taken_added}
 use Rattle.machine_world.proofs.Results.{ok_then, err_then, err_both}
@@ -56,6 +57,9 @@ invariant_of-self-2 c =
       c.self.invariant.2,
       ap (λ (g : Network). are_taken g.units) c.in_ok-node.ensures.added
           ∙ taken_added c.self.inside.graph.units c.in_ok-node.node unit c.self.invariant.3 end,
+      joined_kept c.self.inside.heap c.add_object.new.heap c.add.new.self.links c.add_object.ensures.units
+          (joined_same c.self.inside.heap c.self.inside.graph.links c.add.new.self.links
+          (ap (λ (g : Network). g.links) c.in_ok-node.ensures.added) c.self.invariant.4),
     )
 
 pub returns-clause-end : goal.returns-clause-end

@@ -18,14 +18,14 @@ returns-in_err-node-clause-null c =
     let trap = c.in_err-node.field-0.0 in
     rw (p.1, p.2)
     (to_each _ _ (read_null c.args.p (store_of c.args.self.now) (ARef c.args.at.serial) trap
-    (place_there _ _ c.self.view_is (ARef c.args.at.serial) (Fails trap) (c.in_err-node.ensures {u = tt}))))
+    (place_there _ _ c.self.view_is (ARef c.args.at.serial) (Fails trap) (c.in_err-node.ensures {u = tt}).place)))
 
 pub param-requires : goal.param-requires
 param-requires c =
-    can_read _ _ c.self.view_is (ARef c.args.at.serial) c.in_ok-node.node c.args.p c.in_ok-node.ensures
+    can_read _ _ c.self.view_is (ARef c.args.at.serial) c.in_ok-node.node c.args.p c.in_ok-node.ensures.place
     (of_some _ _ c.requires)
 
 pub returns-clause-found : goal.returns-clause-found
 returns-clause-found c =
-    to_each _ _ (is_read _ _ c.self.view_is (ARef c.args.at.serial) c.in_ok-node.node c.args.p c.in_ok-node.ensures
+    to_each _ _ (is_read _ _ c.self.view_is (ARef c.args.at.serial) c.in_ok-node.node c.args.p c.in_ok-node.ensures.place
     (meant c.param.result) (of_some _ _ c.requires) c.param.ensures)

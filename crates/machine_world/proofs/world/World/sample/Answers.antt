@@ -3,6 +3,7 @@ use Rattle.std.proofs.lemmas.Int.{ints}
 use Rattle.ck_base.specs.declared.limits.TheConstants.{MAX_SAMPLES}
 use Rattle.ugen_graph.specs.Wiring.{Network, connections_of}
 use Rattle.machine_world.specs.Units.{are_taken}
+use Rattle.machine_world.proofs.Joined.{joined_same}
 use Rattle.machine_world.proofs.Places.{taken_sampled}
 use Rattle.machine_world.proofs.world.World.sample.Goals as goal
 
@@ -21,4 +22,6 @@ invariant_of-self c =
       ap (λ (g : Network). are_taken g.units) c.tick-left.ensures.sample
           ∙ taken_sampled (connections_of c.self.inside.graph.links) c.self.inside.graph.units
           c.self.invariant.3,
+      joined_same c.self.inside.heap c.self.inside.graph.links c.tick-left.new.self.links
+          (ap (λ (g : Network). g.links) c.tick-left.ensures.sample) c.self.invariant.4,
     )

@@ -2,10 +2,14 @@ use Rattle.std.proofs.Common.{◌≡◌, ◌<◌, Some, length, slice_get, slice
 use Rattle.std.specs.Prelude.{IsSomeAnd, IfSome}
 use Rattle.ck_values.specs.Datum.{ARef, meant, all_meant}
 use Rattle.ck_store.specs.Objects.{with_field}
+use Rattle.object_heap.specs.declared.body.Body.TheVariants.{Instance}
 use Rattle.object_heap.specs.Objects.{Objects, values_of, with_values, with_body}
 use Rattle.ck_store.specs.Store.{Gives}
 use Rattle.machine_world.specs.Worlds.{plain_store, store_of}
 use Rattle.machine_world.proofs.Held.{shown_objects, taken, held, is_referred, null_is}
+use Rattle.value_ops.specs.Heaps.{KeepsUnits}
+use Rattle.value_ops.proofs.Keeps.{units_put}
+use Rattle.machine_world.proofs.Joined.{joined_kept}
 use Rattle.machine_world.proofs.Numbered.{length-meant}
 use Rattle.machine_world.proofs.Parts.{set_refers, set_null, set_within}
 use Rattle.machine_world.proofs.Replaced.{replaced_so}
@@ -38,8 +42,16 @@ invariant_of-self c =
     let it = taken heap store.objects c.args.at shown c.if-at-eq0.false
     (set_refers store (ARef c.args.at.serial) c.args.i (meant c.args.v) (of_some _ _ c.requires)) in
     let is = held heap c.args.at c.self.invariant.1 it in
+    let fields = slice_set it.fields c.args.i c.args.v in
     let new = subst (λ o. IfSome o (λ body. c.set.new.self ≡ with_body heap c.args.at (with_values body (slice_set (values_of body) c.args.i c.args.v)))) is c.set.ensures.set in
-    (c.self.invariant.0, ap (λ (h : Objects). h.first) new ∙ c.self.invariant.1, c.self.invariant.2, c.self.invariant.3)
+    let units = units_put heap c.args.at (Instance it.class it.fields) fields is in (
+      c.self.invariant.0,
+      ap (λ (h : Objects). h.first) new ∙ c.self.invariant.1,
+      c.self.invariant.2,
+      c.self.invariant.3,
+      joined_kept heap c.set.new.self c.self.inside.graph.links (subst (KeepsUnits heap) (sym new) units)
+          c.self.invariant.4,
+    )
 
 pub returns-clause-set : goal.returns-clause-set
 unfolding store_of
