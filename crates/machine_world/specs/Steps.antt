@@ -5,7 +5,7 @@ use Rattle.ck_values.specs.declared.value.Value.{Value}
 use Rattle.ck_values.specs.Datum.{Datum}
 use Rattle.ck_values.specs.declared.operator.Op2.{Op2}
 use Rattle.ck_store.specs.Steps.{and_then}
-use Rattle.ck_store.specs.Operators.{with_both, binary}
+use Rattle.ck_store.specs.Operators.{binary}
 use Rattle.ck_store.specs.Natives.{Given, operand_count, native}
 use Rattle.ck_typed.specs.declared.native.Native.{Native}
 use Rattle.ck_store.specs.Store.{State, Store, At, On, End, Try, Gives, Fails, Misfit}
@@ -39,12 +39,9 @@ effect_in code instr place s state =
     let top = s.top in
     effect code s.number instr place top.fun top.place top.locals top.operands s.below state
 
-abbrev pub effect_of : CodeParts → Instr → Place → Standing → Store → List Act → Effect
-effect_of code instr place shred store acts =
-    effect_in code instr place (shown shred) (state_of shred store acts)
-
 abbrev pub effect_on : CodeParts → Step → Standing → Store → List Act → Effect
-effect_on code step shred store acts = effect_of code step.instr step.place shred store acts
+effect_on code step shred store acts =
+    effect_in code step.instr step.place (shown shred) (state_of shred store acts)
 
 -- what is done to the shred in place of an instruction
 abbrev pub action_on : Action → Standing → Store → List Act → Effect
@@ -155,10 +152,6 @@ of_two (y ∷ under) go = of_top under (λ x. go x y)
 abbrev pub of_three : {A : Type 0} → List Datum → (Datum → Datum → Datum → Try A) → Try A
 of_three [] go = Misfit
 of_three (z ∷ under) go = of_two under (λ x y. go x y z)
-
--- both of the two topmost operands are such as can be taken
-abbrev pub both_of : (Datum → Try ℤ) → List Datum → Try ℤ
-both_of take operands = of_two operands (λ a b. with_both (take a) (take b) (λ x y. Gives x))
 
 -- what a built-in call gives on the topmost operands
 abbrev pub called : Native → List Datum → State → Try Given
