@@ -70,7 +70,7 @@ impl UnitState {
     }
 
     /// The same, however it joins its sources: mostly it gives their sum to its tick.
-    #[inline(never)]
+    #[cold]
     pub fn sound_joined(&mut self, x: Fix, fed: bool)
         ensures { self.new
             ≡ gives self.old (result_of no_waves self.old.joining self.old.generator x fed) }
@@ -174,6 +174,14 @@ fn at_gain(y: Output, gain: Fix) -> Output
     if y.left.raw() == y.right.raw() {
         return Output::both(number_at(y.left, gain));
     }
+    sides_at_gain(y, gain)
+}
+
+/// The same of two numbers.
+#[cold]
+fn sides_at_gain(y: Output, gain: Fix) -> Output
+    ensures { result ≡ at_gain gain y }
+{
     Output {
         left: number_at(y.left, gain),
         right: number_at(y.right, gain),
