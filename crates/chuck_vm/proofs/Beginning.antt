@@ -22,7 +22,8 @@ use Rattle.ck_run.specs.Sound.{AllSporks}
 use Rattle.ck_typed.specs.WellFormed.{FoundWhere}
 use Rattle.run_laws.specs.FitRuns.{IsRunStore, IsFitShred}
 use Rattle.shred_state.specs.Frames.{Standing, new_shred}
-use Rattle.machine_world.specs.Shown.{shown, frames_of, kinds_of, newly_shown}
+use Rattle.machine_world.specs.Shown.{shown, frames_of, kinds_of}
+use Rattle.machine_world.proofs.Begins.{newly_meant}
 use Rattle.chuck_vm.specs.Machine.{shred_of}
 use Rattle.chuck_vm.specs.Telling.{CanBegin}
 
@@ -35,7 +36,6 @@ first_is P (Some fn) f vs found = refl
 pub begun_shred : (code : CodeParts) (shred : Standing) (number parent f : ℕ) (args : List Value)
     → CanBegin code f (all_meant args)
     → shred ≡ new_shred number parent f (kinds_of (slice_get code.funs f)) args
-    → shown shred ≡ newly_shown number parent f (kinds_of (slice_get code.funs f)) (all_meant args)
     → shred_of code shred ≡ record {
       number = number;
       parent = parent;
@@ -43,7 +43,7 @@ pub begun_shred : (code : CodeParts) (shred : Standing) (number parent f : ℕ) 
           beginning code f (all_meant args);
     }
 unfolding fresh
-begun_shred code shred number parent f args can is shows =
+begun_shred code shred number parent f args can is =
     let R : (frames : List Frame) → Standing → Shred Stopped =
     λ frames s. record {
       number = s.number;
@@ -53,7 +53,8 @@ begun_shred code shred number parent f args can is shows =
     } in
     let new = new_shred number parent f (kinds_of (slice_get code.funs f)) args in
     ap (R (frames_of (shown shred))) is
-    ∙ ap (λ v. R (frames_of v) new) shows
+    ∙ ap (λ v. R (frames_of v) new)
+    (ap shown is ∙ newly_meant number parent f (kinds_of (slice_get code.funs f)) args)
     ∙ ap (λ frames. R frames new)
     (first_is (λ fn. fn.params ≡ length (all_meant args)) (slice_get code.funs f) f (all_meant args) can)
 

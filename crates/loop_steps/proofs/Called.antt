@@ -1,5 +1,5 @@
 -- A call from where a shred stands, once its turn is spent.
-use Rattle.std.proofs.Common.{◌≡◌, ◌<◌, ◌≤◌, ◌+◌, ℕ, suc, List, [], ◌∷◌, Some, length, map, reverse, take, drop, slice_get, ap, sym, ◌∙◌, subst, arith}
+use Rattle.std.proofs.Common.{◌≡◌, ◌<◌, ◌≤◌, ◌+◌, ℕ, suc, List, [], ◌∷◌, Some, length, reverse, take, drop, slice_get, ap, sym, ◌∙◌, subst, arith}
 use Rattle.std.proofs.lemmas.Grind.{common_steps}
 use Rattle.ck_base.specs.declared.limits.TheConstants.{MAX_CALLS}
 use Rattle.ck_values.specs.Datum.{first_locals}
@@ -14,7 +14,8 @@ use Rattle.ck_store.specs.Store.{Store, State, Gives, Fails, IsFitting}
 use Rattle.shred_state.specs.Frames.{Standing, at_place, entered as standing_entered}
 use Rattle.machine_world.specs.Acts.{all_acts_meant}
 use Rattle.machine_world.specs.Scenes.{Scene, scene, effect_over, state_over}
-use Rattle.machine_world.specs.Shown.{Shown, shown, shown_frame, frames_of, operands_of, at_place as shown_at, IsEntered}
+use Rattle.machine_world.specs.Shown.{Shown, shown, frames_of, operands_of}
+use Rattle.machine_world.proofs.Changed.{at_place as shown_at, IsEntered}
 use Rattle.machine_world.specs.Steps.{state_of}
 use Rattle.machine_world.specs.Worlds.{Parts}
 use Rattle.machine_world.specs.declared.acts.Act.{Act}

@@ -9,7 +9,8 @@ use Rattle.ck_store.specs.Objects.{field_of, with_field}
 use Rattle.ck_store.specs.Operators.{binary}
 use Rattle.ck_store.specs.Store.{IsFitting}
 use Rattle.machine_world.specs.Shown.{operands_of}
-use Rattle.machine_world.specs.Steps.{of_top, of_two, of_three}
+use Rattle.machine_world.specs.Steps.{of_top, of_two}
+use Rattle.machine_world.proofs.Changed.{of_three}
 use Rattle.machine_world.specs.Scenes.{Scene, state_over, CanRun}
 use Rattle.machine_world.proofs.Carried.{good_as, one_found, two_found, three_found}
 

@@ -5,7 +5,8 @@ use Rattle.ck_values.specs.Datum.{Datum, meant, all_meant}
 use Rattle.ck_store.specs.Steps.{with_local}
 use Rattle.ck_store.specs.Store.{Gives, IsFitting}
 use Rattle.shred_state.specs.Frames.{Standing, with_operands as standing_with, with_locals as standing_locals, at_place as standing_at}
-use Rattle.machine_world.specs.Shown.{shown, shown_frame, locals_of, operands_of, with_operands, with_locals, at_place}
+use Rattle.machine_world.specs.Shown.{shown, shown_frame, locals_of, operands_of}
+use Rattle.machine_world.proofs.Changed.{with_operands, with_locals, at_place}
 use Rattle.machine_world.proofs.Numbered.{length-meant, set_local_within, set_local_meant}
 
 module _ (old new : Standing) where

@@ -15,7 +15,8 @@ use Rattle.ck_code.specs.Machine.{step_at, with_step, next_effect}
 use Rattle.ck_code.specs.Potential.{potential}
 use Rattle.ck_code.specs.Verified.{IsVerified}
 use Rattle.ck_code.proofs.Ends.{leads_lower}
-use Rattle.machine_world.specs.Shown.{Shown, frames_of, with_operands, with_locals, at_place}
+use Rattle.machine_world.specs.Shown.{Shown, frames_of}
+use Rattle.machine_world.proofs.Changed.{with_operands, with_locals, at_place}
 use Rattle.machine_world.specs.Steps.{IsGood, effect_in, of_two, updated}
 use Rattle.loop_steps.specs.Ints.{CanPut, PutsInt, HasUpdated, holding, run_from, begun_from, HasGoneOn}
 use Rattle.loop_steps.specs.Runs.{IsOver}

@@ -18,7 +18,8 @@ use Rattle.ck_code.proofs.Ends.{leads_lower}
 use Rattle.shred_state.specs.Frames.{Standing}
 use Rattle.machine_world.specs.Shown.{shown, frames_of}
 use Rattle.machine_world.specs.declared.acts.Act.{Act}
-use Rattle.machine_world.specs.Steps.{IsGood, effect_on, state_of}
+use Rattle.machine_world.specs.Steps.{IsGood, state_of}
+use Rattle.machine_world.proofs.Changed.{effect_on}
 use Rattle.machine_world.specs.Steps.{of_two}
 use Rattle.loop_steps.specs.Runs.{IsOver, run_of, begun_by}
 use Rattle.machine_world.specs.Worlds.{counted}

@@ -1,26 +1,21 @@
 -- What an update of a local or of a static finds.
-use Rattle.std.proofs.Common.{◌≡◌, ◌<◌, ◌+◌, ℕ, List, ◌∷◌, Some, drop, length, slice_get, slice_set, refl, ap, ◌∙◌, arith}
+use Rattle.std.proofs.Common.{◌≡◌, ◌<◌, ℕ, List, Some, length, slice_get, arith}
 use Rattle.ck_values.specs.declared.operator.Op2.{Op2 as Operator}
-use Rattle.ck_values.specs.declared.trap.Trap.{Trap}
 use Rattle.ck_values.specs.declared.value.Value.{Value}
-use Rattle.ck_values.specs.Datum.{Datum, meant, all_meant}
+use Rattle.ck_values.specs.Datum.{Datum, meant}
 use Rattle.ck_code.specs.declared.code.CodeParts.{CodeParts}
 use Rattle.ck_code.specs.declared.code.Step.{Step}
 use Rattle.ck_code.specs.declared.instr.Instr.TheVariants.{OpLocal, OpStatic}
-use Rattle.ck_code.specs.Machine.{Effect, Breaks, tried, pushes, updates_local, updates_static}
 use Rattle.ck_store.specs.Operators.{binary}
 use Rattle.ck_store.specs.Steps.{local_of, with_local, static_of, with_static}
-use Rattle.ck_store.specs.Store.{Store, Gives, Fails, IsFitting}
-use Rattle.shred_state.specs.Frames.{Standing}
-use Rattle.machine_world.specs.Scenes.{Scene, scene, state_over, effect_over, CanRun, Carries}
+use Rattle.ck_store.specs.Store.{Gives, IsFitting}
+use Rattle.machine_world.specs.Scenes.{Scene, state_over, CanRun}
 use Rattle.machine_world.specs.Shown.{shown, locals_of, operands_of}
-use Rattle.machine_world.specs.Steps.{effect_in, next_standing, updated}
+use Rattle.machine_world.specs.Steps.{updated}
 use Rattle.machine_world.specs.Tries.{CanDo}
-use Rattle.machine_world.specs.Worlds.{StandsFor}
-use Rattle.machine_world.specs.declared.course.Then.TheVariants.{GoesOn}
-use Rattle.machine_world.proofs.Carried.{good_as, carries_next}
-use Rattle.machine_world.proofs.Numbered.{length-meant, local_within, local_meant, set_local_meant}
-use Rattle.machine_world.proofs.Operands.{operand_meant, split_top}
+use Rattle.machine_world.proofs.Carried.{good_as}
+use Rattle.machine_world.proofs.Numbered.{length-meant, local_within, local_meant}
+use Rattle.machine_world.proofs.Operands.{operand_meant}
 use Rattle.machine_world.proofs.Picked.{looked_at}
 use Rattle.machine_world.proofs.Updates.{local_updates, static_updates, old_fits, operator_fits, put_fits}
 

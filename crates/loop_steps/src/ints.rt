@@ -11,7 +11,7 @@ ghost use Rattle.ck_code.specs.Machine.{steps_of};
 ghost use Rattle.ck_store.specs.Operators.{binary};
 ghost use Rattle.ck_store.specs.Steps.{is_zero, pick, local_of, with_local};
 ghost use Rattle.ck_store.specs.Store.{State, Gives, IsFitting};
-ghost use Rattle.machine_world.specs.Shown.{shown, locals_of, operands_of, next_place};
+ghost use Rattle.machine_world.specs.Shown.{shown, locals_of, operands_of};
 ghost use Rattle.shred_state.specs.Frames.{with_operands, with_locals};
 ghost use Rattle.machine_world.specs.Steps.{of_two, updated, IsSame};
 ghost use Rattle.loop_steps.specs.Ints.{CanPut, PutsInt, HasOperated, HasUpdated, holding};
@@ -156,7 +156,7 @@ pub fn go_on_with_int(
         let new = state_with s (shown shred.new).turns in
         IsOver (run_from code.now first old) → OnOk result (HasGoneOn code.now
         begun.old line first old begun.new (here.new - from.new) (shown shred.new) new) }
-    ensures here { OnOk result (here.new ≡ next_place shred.new) }
+    ensures here { OnOk result (here.new ≡ shred.new.top.place) }
     ensures from { OnOk result (from.new ≤ here.new) }
     ensures fun { IfOk result (λ moved.
         OnFalse moved ((shown shred.new).top.fun ≡ (shown shred.old).top.fun)) }

@@ -14,7 +14,8 @@ use Rattle.ck_code.proofs.Standing.{found_is}
 use Rattle.ck_code.proofs.Tables.{get_within}
 use Rattle.shred_state.specs.Frames.{new_shred}
 use Rattle.shred_state.specs.Values.{first_value as first_held}
-use Rattle.machine_world.specs.Shown.{Shown, shown, kinds_of, newly_shown}
+use Rattle.machine_world.specs.Shown.{Shown, shown, kinds_of}
+use Rattle.machine_world.proofs.Changed.{newly_shown}
 use Rattle.machine_world.proofs.Kept.{meant_firsts}
 use Rattle.machine_world.proofs.Numbered.{length-meant}
 

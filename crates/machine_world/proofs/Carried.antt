@@ -13,8 +13,9 @@ use Rattle.shred_state.specs.Frames.{Standing}
 use Rattle.machine_world.specs.Shown.{Shown, shown, frames_of}
 use Rattle.machine_world.specs.Acts.{all_acts_meant}
 use Rattle.machine_world.specs.Steps.{effect_in, state_of, Follows, IsGood, IsSame, Stays, IsPut, next_standing}
-use Rattle.machine_world.specs.Steps.{of_top, of_two, of_three}
-use Rattle.machine_world.specs.Scenes.{Scene, scene, state_over, effect_over, CanRun, CanRunIn, CanRunAlone, Carries}
+use Rattle.machine_world.specs.Steps.{of_top, of_two}
+use Rattle.machine_world.proofs.Changed.{of_three}
+use Rattle.machine_world.specs.Scenes.{Scene, scene, state_over, effect_over, CanRun, Carries}
 use Rattle.machine_world.specs.Tries.{HasStore}
 use Rattle.machine_world.proofs.Sends.{good_fits}
 use Rattle.machine_world.specs.Worlds.{Parts, StandsFor, store_of}
@@ -29,15 +30,6 @@ pub good_as : (code : CodeParts) (step : Step) (now : Scene) (instr : Instr) →
 good_as code step now instr is can =
     subst (λ i. IsGood (effect_in code i step.place (shown now.shred) (state_over can.store now))) is
     can.good
-
--- what can be carried out can be in the world alone, and on the shred alone
-pub can_in : (code : CodeParts) (step : Step) (now : Scene) → CanRun code step now
-    → CanRunIn now.world step now.shred
-can_in code step now can = record { code = code; acts = now.acts; can = can }
-
-pub can_alone : (code : CodeParts) (step : Step) (now : Scene) → CanRun code step now
-    → CanRunAlone step now.shred
-can_alone code step now can = record { world = now.world; can = can_in code step now can }
 
 -- over each store that the world stood for, it was to go on with these locals and operands
 abbrev pub GoesOnWith : CodeParts → Step → (old : Scene) → (locals operands : List Value) → Parts

@@ -1,7 +1,7 @@
 -- The frames of a shred, and what they mean.
 use Rattle.std.proofs.Common.{◌≡◌, ◌≤◌, ◌++◌, ℕ, List, [], ◌∷◌, map, take, drop, length, reverse}
 use Rattle.std.proofs.Common.{refl, ap, sym, subst, ◌∙◌, arith}
-use Rattle.std.proofs.lemmas.List.{length-map, length-reverse, length-take-le, reverse-append}
+use Rattle.std.proofs.lemmas.List.{length-map, length-reverse, length-take-le}
 use Rattle.std.proofs.lemmas.List.{map-append, take-map, drop-map}
 use Rattle.ck_values.specs.declared.kind.Elem.TheVariants as elem
 use Rattle.ck_values.specs.declared.kind.Kind.{Kind}
@@ -11,21 +11,14 @@ use Rattle.ck_values.specs.Datum.{Datum, meant, all_meant, first_value, first_lo
 use Rattle.ck_code.specs.Machine.{frame, taken}
 use Rattle.shred_state.specs.Frames.{Frame, Standing, entered, at_place as standing_at}
 use Rattle.shred_state.specs.Values.{first_value as first_held, first_locals as locals_held}
-use Rattle.machine_world.specs.Shown.{Shown, shown_frame, shown, operands_of, at_place, IsEntered}
+use Rattle.machine_world.specs.Shown.{Shown, shown_frame, shown, operands_of}
+use Rattle.machine_world.proofs.Changed.{at_place, IsEntered}
 use Rattle.ck_store.specs.Store.{IsFitting}
 use Rattle.machine_world.proofs.Numbered.{length-meant}
-use Rattle.machine_world.proofs.Taken.{taken_within, taken_gives}
+use Rattle.machine_world.proofs.Taken.{taken_within, taken_gives, reverse_meant}
 
 pub length-shown : (frames : List Frame) → length (map shown_frame frames) ≡ length frames
 length-shown frames = length-map frames shown_frame
-
-meant-reverse : (values : List Value) → all_meant (reverse values) ≡ reverse (all_meant values)
-meant-reverse [] = refl
-meant-reverse (v ∷ values) =
-    ap all_meant (reverse-append (v ∷ []) values)
-    ∙ map-append meant (reverse values) (v ∷ [])
-    ∙ ap (λ vs. vs ++ meant v ∷ []) (meant-reverse values)
-    ∙ sym (reverse-append (meant v ∷ []) (all_meant values))
 
 -- variables begin with what their kinds say
 meant_first : (k : Kind) → meant (first_held k) ≡ first_value k
@@ -55,7 +48,7 @@ meant_locals : (kinds : List Kind) (n : ℕ) (operands : List Value) → n ≤ l
 meant_locals kinds n operands few =
     let data1 = all_meant operands in
     let args : all_meant (reverse (take n operands)) ≡ reverse (take n data1) =
-    meant-reverse (take n operands) ∙ ap reverse (sym (take-map meant n operands)) in
+    reverse_meant (take n operands) ∙ ap reverse (sym (take-map meant n operands)) in
     let size : n ≡ length (reverse (take n data1)) =
     sym (length-reverse (take n data1)
     ∙ length-take-le n data1 (omega (arith, few, length-meant operands))) in

@@ -1,3 +1,4 @@
+pub mod Changed
 pub mod Results
 pub mod Numbered
 pub mod Texts

@@ -1,6 +1,6 @@
 -- Variables by their numbers.
 use Rattle.std.proofs.Common.{◌≡◌, ℕ, ℤ, zero, suc, ◌<◌, arith, length, List, [], ◌∷◌}
-use Rattle.std.proofs.Common.{Some, slice_get, slice_set, refl, ap, sym, ◌∙◌}
+use Rattle.std.proofs.Common.{Some, slice_get, slice_set, ap, sym, ◌∙◌}
 use Rattle.std.specs.Option.{option_map}
 use Rattle.std.proofs.lemmas.List.{length-map, map-set}
 use Rattle.std.proofs.lemmas.Option.{slice_get-map}
@@ -62,36 +62,6 @@ set_local_meant values i old v is =
     let set = Gives (slice_set (all_meant values) i (meant v)) in
     ap (λ o. and_then (found o) (λ d. set)) (get_meant values i old is)
     ∙ ap Gives (sym (set_meant values i v))
-
--- a local that is replaced twice
-set_twice : {A : Type 0} (items : List A) (i : ℕ) (x y : A)
-    → slice_set (slice_set items i x) i y ≡ slice_set items i y
-set_twice [] i x y = refl
-set_twice (z ∷ items) zero x y = refl
-set_twice (z ∷ items) (suc i) x y = ap (λ rest. z ∷ rest) (set_twice items i x y)
-
-pub get_set : {A : Type 0} (items : List A) (i : ℕ) (x old : A) → slice_get items i ≡ Some old
-    → slice_get (slice_set items i x) i ≡ Some x
-get_set [] i x old is = absurd (cc)
-get_set (z ∷ items) zero x old is = refl
-get_set (z ∷ items) (suc i) x old is = get_set items i x old is
-
-local_twice : (locals : List Datum) (i : ℕ) (x old v : Datum) → slice_get locals i ≡ Some old
-    → with_local locals i v ≡ with_local (slice_set locals i x) i v
-unfolding local_of with_local
-local_twice locals i x old v is =
-    let set : Datum → Try (List Datum) = λ d. Gives (slice_set locals i v) in
-    ap (λ o. and_then (found o) set) is
-    ∙ ap Gives (sym (set_twice locals i x v))
-    ∙ sym (ap (λ o. and_then (found o) (λ d. Gives (slice_set (slice_set locals i x) i v)))
-    (get_set locals i x old is))
-
-pub set_local_twice : (values : List Value) (i : ℕ) (x old : Value) (v : Datum)
-    → slice_get values i ≡ Some old
-    → with_local (all_meant values) i v ≡ with_local (all_meant (slice_set values i x)) i v
-set_local_twice values i x old v is =
-    local_twice (all_meant values) i (meant x) (meant old) v (get_meant values i old is)
-    ∙ ap (λ locals. with_local locals i v) (sym (set_meant values i x))
 
 pub ruleset locals = (length-meant, local_within, local_meant, set_local_within, set_local_meant)
 

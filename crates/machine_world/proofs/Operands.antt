@@ -1,9 +1,10 @@
 -- The operands and locals of a shred, and what they mean.
-use Rattle.std.proofs.Common.{◌≡◌, ℕ, List, [], ◌∷◌, drop, Some, slice_get, unwrap_or, refl, ap, ◌∙◌}
+use Rattle.std.proofs.Common.{◌≡◌, ℕ, List, [], ◌∷◌, drop, Some, slice_get, unwrap_or, ap}
 use Rattle.ck_values.specs.declared.value.Value.{Value}
 use Rattle.ck_values.specs.Datum.{meant}
 use Rattle.shred_state.specs.Frames.{Standing, with_operands as standing_with}
-use Rattle.machine_world.specs.Shown.{shown, operands_of, with_operands}
+use Rattle.machine_world.specs.Shown.{shown, operands_of}
+use Rattle.machine_world.proofs.Changed.{with_operands}
 use Rattle.machine_world.proofs.Numbered.{length-meant, get_meant}
 
 -- one that was taken from the top

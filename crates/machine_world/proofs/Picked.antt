@@ -2,8 +2,9 @@
 use Rattle.std.proofs.Common.{◌≡◌, List, [], ◌∷◌, Some, slice_get, unwrap_or, ap, subst}
 use Rattle.ck_values.specs.Datum.{Datum}
 use Rattle.ck_store.specs.Store.{Try, IsFitting}
-use Rattle.machine_world.specs.Shown.{Shown, with_operands}
-use Rattle.machine_world.specs.Steps.{of_top, of_two, of_three}
+use Rattle.machine_world.specs.Shown.{Shown}
+use Rattle.machine_world.specs.Steps.{of_top, of_two}
+use Rattle.machine_world.proofs.Changed.{with_operands, of_three}
 
 -- the operands before one was taken from the top
 pub taken_off : (old new : Shown) (x : Datum) → old ≡ with_operands new (x ∷ new.top.operands)

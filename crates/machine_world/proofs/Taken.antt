@@ -1,5 +1,5 @@
 -- Operands that are taken as arguments.
-use Rattle.std.proofs.Common.{◌≡◌, ℕ, zero, suc, ◌-◌, ◌<◌, ◌≤◌, List, [], ◌∷◌, ◌++◌}
+use Rattle.std.proofs.Common.{◌≡◌, ℕ, zero, suc, ◌≤◌, List, [], ◌∷◌, ◌++◌}
 use Rattle.std.proofs.Common.{take, drop, length, reverse, refl, ap, sym, ◌∙◌, arith, append_assoc}
 use Rattle.std.proofs.lemmas.List.{append-nil as append_nil, reverse-append, map-append}
 use Rattle.std.proofs.lemmas.List.{length-take-le, take-append-drop}
@@ -8,7 +8,6 @@ use Rattle.ck_values.specs.Datum.{Datum, meant, all_meant}
 use Rattle.ck_store.specs.Store.{Gives}
 use Rattle.ck_code.specs.Machine.{taken}
 use Rattle.ck_store.specs.Store.{IsFitting}
-use Rattle.machine_world.specs.Shown.{Shown, with_operands}
 
 -- the topmost operands are taken, the last one pushed at the end
 taken_front : (front before beneath : List Datum)
@@ -49,33 +48,13 @@ pub taken_gives : (n : ℕ) (operands : List Datum) → IsFitting (taken n [] op
 taken_gives n operands fits = taken_is n operands (taken_within n [] operands fits)
 
 -- values in the other order
-reverse_meant : (values : List Value) → all_meant (reverse values) ≡ reverse (all_meant values)
+pub reverse_meant : (values : List Value) → all_meant (reverse values) ≡ reverse (all_meant values)
 reverse_meant [] = refl
 reverse_meant (v ∷ values) =
     ap all_meant (reverse-append (v ∷ []) values)
     ∙ map-append meant (reverse values) (v ∷ [])
     ∙ ap (λ ds. ds ++ meant v ∷ []) (reverse_meant values)
     ∙ sym (reverse-append (meant v ∷ []) (all_meant values))
-
--- one operand more was taken from the top
-one_taken : (values : List Value) (v : Value) (k : ℕ) (ops : List Datum)
-    → all_meant (values ++ v ∷ []) ++ take k ops ≡ all_meant values ++ take (suc k) (meant v ∷ ops)
-one_taken values v k ops =
-    ap (λ ds. ds ++ take k ops) (map-append meant values (v ∷ []))
-    ∙ append_assoc (all_meant values) (meant v ∷ []) (take k ops)
-
-pub taken_step : (values later : List Value) (v : Value) (left : ℕ) (old new : Shown)
-    (all : List Datum) → old ≡ with_operands new (meant v ∷ new.top.operands) → 0 < left
-    → later ≡ values ++ v ∷ [] → all_meant values ++ take left old.top.operands ≡ all
-    → all_meant later ++ take (left - 1) new.top.operands ≡ all
-taken_step values later v zero old new all is more grown so = absurd (omega (arith, more))
-taken_step values later v (suc k) old new all is more grown so =
-    let one : suc k - 1 ≡ k = omega arith in
-    ap (λ n. all_meant later ++ take n new.top.operands) one
-    ∙ ap (λ vs. all_meant vs ++ take k new.top.operands) grown
-    ∙ one_taken values v k new.top.operands
-    ∙ ap (λ (s : Shown). all_meant values ++ take (suc k) s.top.operands) (sym is)
-    ∙ so
 
 -- all were taken
 pub taken_all : (values back : List Value) (left : ℕ) (ops all : List Datum) → left ≡ 0

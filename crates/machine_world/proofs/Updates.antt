@@ -9,7 +9,8 @@ use Rattle.ck_store.specs.Objects.{field_of, with_field}
 use Rattle.ck_store.specs.Operators.{binary}
 use Rattle.ck_code.specs.Machine.{Frame, Effect, tried, updates_local, updates_static, updates_field}
 use Rattle.machine_world.specs.Steps.{IsGood, of_top, of_two, updated}
-use Rattle.machine_world.specs.Shown.{Shown, with_operands}
+use Rattle.machine_world.specs.Shown.{Shown}
+use Rattle.machine_world.proofs.Changed.{with_operands}
 use Rattle.machine_world.specs.Tries.{IsReference}
 use Rattle.machine_world.proofs.Parts.{fits_first, field_refers, refers}
 use Rattle.machine_world.proofs.Sends.{good_fits}

@@ -1,23 +1,20 @@
 -- What comes after an instruction.
-use Rattle.std.specs.Prelude.{◌≡◌, ◌⊎◌, ◌+◌, ℤ, pos, ◌≤ℤ◌, List, [], ◌∷◌}
+use Rattle.std.specs.Prelude.{◌≡◌, ◌⊎◌, ◌+◌, pos, ◌≤ℤ◌, List, [], ◌∷◌}
 use Rattle.ck_values.specs.declared.trap.Place.{Place}
 use Rattle.ck_values.specs.declared.value.Value.{Value}
 use Rattle.ck_values.specs.Datum.{Datum}
 use Rattle.ck_values.specs.declared.operator.Op2.{Op2}
 use Rattle.ck_store.specs.Steps.{and_then}
 use Rattle.ck_store.specs.Operators.{binary}
-use Rattle.ck_store.specs.Natives.{Given, operand_count, native}
-use Rattle.ck_typed.specs.declared.native.Native.{Native}
 use Rattle.ck_store.specs.Store.{State, Store, At, On, End, Try, Gives, Fails, Misfit}
 use Rattle.ck_code.specs.declared.instr.Instr.{Instr}
 use Rattle.ck_code.specs.declared.instr.Instr.TheVariants.{UnitInt, UnitFix, Ugen}
-use Rattle.ck_code.specs.declared.code.Step.{Step}
 use Rattle.ck_code.specs.declared.code.CodeParts.{CodeParts}
 use Rattle.ck_typed.specs.WellFormed.{IsMade}
-use Rattle.ck_code.specs.Machine.{Frame, Effect, Next, Stops, Over, Breaks, Bad, Action, frame, taken, effect}
+use Rattle.ck_code.specs.Machine.{Frame, Effect, Next, Stops, Over, Breaks, Bad, frame, effect}
 use Rattle.shred_state.specs.Frames.{Standing, frame as held_frame}
 use Rattle.machine_world.specs.Acts.{all_acts_meant}
-use Rattle.machine_world.specs.Shown.{Shown, shown, locals_of, frames_of}
+use Rattle.machine_world.specs.Shown.{Shown, shown, frames_of}
 use Rattle.machine_world.specs.Tries.{HasStore}
 use Rattle.machine_world.specs.Worlds.{Parts}
 use Rattle.machine_world.specs.declared.acts.Act.{Act}
@@ -38,16 +35,6 @@ abbrev pub effect_in : CodeParts → Instr → Place → Shown → State → Eff
 effect_in code instr place s state =
     let top = s.top in
     effect code s.number instr place top.fun top.place top.locals top.operands s.below state
-
-abbrev pub effect_on : CodeParts → Step → Standing → Store → List Act → Effect
-effect_on code step shred store acts =
-    effect_in code step.instr step.place (shown shred) (state_of shred store acts)
-
--- what is done to the shred in place of an instruction
-abbrev pub action_on : Action → Standing → Store → List Act → Effect
-action_on action shred store acts =
-    let s = shown shred in
-    action s.top.fun s.top.place s.top.locals s.top.operands s.below (state_of shred store acts)
 
 -- it finds operands that it can take
 abbrev pub IsGood : Effect → Type 0
@@ -132,12 +119,6 @@ abbrev pub next_standing : Standing → (locals operands : List Value) → Stand
 next_standing shred locals operands =
     record shred { top = held_frame shred.top.fun (shred.top.place + 1) locals operands }
 
--- the same, by what its values mean
-abbrev pub next_with : Standing → (locals operands : List Datum) → Shown
-next_with shred locals operands =
-    let s = shown shred in
-    record s { top = frame s.top.fun (s.top.place + 1) locals operands }
-
 -- what a step on the top operand gives
 abbrev pub of_top : {A : Type 0} → List Datum → (Datum → Try A) → Try A
 of_top [] go = Misfit
@@ -148,23 +129,15 @@ abbrev pub of_two : {A : Type 0} → List Datum → (Datum → Datum → Try A) 
 of_two [] go = Misfit
 of_two (y ∷ under) go = of_top under (λ x. go x y)
 
--- what a step on the three topmost operands gives, the lowest one first
-abbrev pub of_three : {A : Type 0} → List Datum → (Datum → Datum → Datum → Try A) → Try A
-of_three [] go = Misfit
-of_three (z ∷ under) go = of_two under (λ x y. go x y z)
-
--- what a built-in call gives on the topmost operands
-abbrev pub called : Native → List Datum → State → Try Given
-called call operands s =
-    and_then (taken (operand_count call) [] operands) (λ t. native call t.arguments s)
-
 -- what a step gives on what an operator makes of a variable's old value and of an operand
 abbrev pub updated : {A : Type 0} → (old : Try Datum) → Op2 → (Datum → Try A) → (operand : Datum) →
     Try A
 updated old o put e = and_then old (λ v. and_then (binary o v e) put)
 
--- the step gave a value, which was put on these operands
+-- the step gave a value, which was put on these operands before the next instruction
 abbrev pub IsPut : Try Datum → (old : Standing) → (beneath : List Datum) → (new : Standing) → Type 0
-IsPut (Gives v) old beneath new = shown new ≡ next_with old (locals_of old) (v ∷ beneath)
+IsPut (Gives v) old beneath new =
+    let s = shown old in
+    shown new ≡ record s { top = frame s.top.fun (s.top.place + 1) s.top.locals (v ∷ beneath) }
 IsPut (Fails trap) old beneath new = ⊥
 IsPut Misfit old beneath new = ⊥

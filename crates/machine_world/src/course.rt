@@ -1,11 +1,9 @@
 //! What comes after an instruction.
 ghost use Rattle.std.specs.Prelude.{◌≡◌, ◌∷◌, ◌-◌, ◌^◌, ◌<◌, IfOk, OnOk};
-ghost use Rattle.ck_values.specs.Datum.{meant};
 ghost use Rattle.machine_world.specs.declared.course.Course.TheVariants.{Ahead};
 ghost use Rattle.machine_world.specs.declared.course.Then.TheVariants.{GoesOn};
-ghost use Rattle.machine_world.specs.Shown.{shown, locals_of, operands_of, next_place};
 ghost use Rattle.shred_state.specs.Frames.{Standing};
-ghost use Rattle.machine_world.specs.Steps.{next_with, next_standing, joined, IsAhead};
+ghost use Rattle.machine_world.specs.Steps.{next_standing, joined, IsAhead};
 
 use ck_values::{Place, Ref, Trap, Value};
 use fixed_point::Memory;
@@ -66,14 +64,11 @@ pub fn parted(then: Then, stop: &mut Stop) -> Course
 }
 
 /// Puts an operand on the top, and goes on to the next instruction.
-#[tactic(auto, unfolding(crate::specs::Shown::shown))]
 #[inline(always)]
 pub fn put(shred: &mut Shred, v: Value) -> Result<Then, Memory>
-    requires { next_place shred.old < 2 ^ 64 - 1 }
+    requires { shred.old.top.place < 2 ^ 64 - 1 }
     ensures then { IfOk result (λ then. then ≡ GoesOn) }
-    ensures put { OnOk result (shown shred.new ≡
-        next_with shred.old (locals_of shred.old) (meant v ∷ operands_of shred.old)) }
-    ensures new { let top = shred.old.top in OnOk result
+    ensures put { let top = shred.old.top in OnOk result
         (shred.new ≡ next_standing shred.old top.locals (v ∷ top.operands)) }
 {
     shred.push(v)?;
@@ -81,15 +76,12 @@ pub fn put(shred: &mut Shred, v: Value) -> Result<Then, Memory>
 }
 
 /// The same from the place where the shred stands.
-#[tactic(auto, unfolding(crate::specs::Shown::shown))]
 #[inline(always)]
 pub fn put_from(shred: &mut Shred, here: usize, v: Value) -> Result<Course, Memory>
-    requires here { here ≡ next_place shred.old }
+    requires here { here ≡ shred.old.top.place }
     requires place { here < 2 ^ 64 - 1 }
     ensures ahead { IfOk result (λ course. course ≡ Ahead) }
-    ensures put { OnOk result (shown shred.new ≡
-        next_with shred.old (locals_of shred.old) (meant v ∷ operands_of shred.old)) }
-    ensures new { let top = shred.old.top in OnOk result
+    ensures put { let top = shred.old.top in OnOk result
         (shred.new ≡ next_standing shred.old top.locals (v ∷ top.operands)) }
 {
     shred.push(v)?;
@@ -97,15 +89,12 @@ pub fn put_from(shred: &mut Shred, here: usize, v: Value) -> Result<Course, Memo
 }
 
 /// Goes on to the next instruction, from the place where the shred stands.
-#[tactic(auto, unfolding(crate::specs::Shown::shown))]
 #[inline(always)]
 pub fn go_on_from(shred: &mut Shred, here: usize) -> Course
-    requires here { here ≡ next_place shred.old }
+    requires here { here ≡ shred.old.top.place }
     requires place { here < 2 ^ 64 - 1 }
     ensures ahead { result ≡ Ahead }
-    ensures next { shown shred.new
-        ≡ next_with shred.old (locals_of shred.old) (operands_of shred.old) }
-    ensures new { let top = shred.old.top in
+    ensures next { let top = shred.old.top in
         shred.new ≡ next_standing shred.old top.locals top.operands }
 {
     shred.go_on_from(here);
@@ -113,14 +102,11 @@ pub fn go_on_from(shred: &mut Shred, here: usize) -> Course
 }
 
 /// Goes on to the next instruction.
-#[tactic(auto, unfolding(crate::specs::Shown::shown))]
 #[inline(always)]
 pub fn go_on(shred: &mut Shred) -> Then
-    requires { next_place shred.old < 2 ^ 64 - 1 }
+    requires { shred.old.top.place < 2 ^ 64 - 1 }
     ensures then { result ≡ GoesOn }
-    ensures next { shown shred.new
-        ≡ next_with shred.old (locals_of shred.old) (operands_of shred.old) }
-    ensures new { let top = shred.old.top in
+    ensures next { let top = shred.old.top in
         shred.new ≡ next_standing shred.old top.locals top.operands }
 {
     shred.go_on();

@@ -1,10 +1,9 @@
 //! Shreds: one that begins, and one that leaves a function.
 ghost use Rattle.std.specs.Prelude.{◌≡◌, [], ◌∷◌, length, IfOk, slice_get};
 ghost use Rattle.std.specs.Bool.{OnTrue, OnFalse};
-ghost use Rattle.ck_values.specs.Datum.{all_meant};
 ghost use Rattle.ck_typed.specs.WellFormed.{FoundWhere};
 ghost use Rattle.shred_state.specs.Frames.{new_shred, with_values};
-ghost use Rattle.machine_world.specs.Shown.{shown, kinds_of, newly_shown};
+ghost use Rattle.machine_world.specs.Shown.{kinds_of};
 
 use crate::fetch::fun_at;
 use ck_code::Code;
@@ -24,11 +23,8 @@ pub fn new_shred(
     args: Vec<Value>,
 ) -> Result<Shred, Memory>
     requires { FoundWhere (slice_get code.now.funs fun) (λ fn. fn.params ≡ length args.items) }
-    ensures new { let kinds = kinds_of (slice_get code.now.funs fun) in
+    ensures { let kinds = kinds_of (slice_get code.now.funs fun) in
         IfOk result (λ shred. shred ≡ new_shred number parent fun kinds args.items) }
-    ensures shown { let kinds = kinds_of (slice_get code.now.funs fun) in
-        IfOk result (λ shred.
-        shown shred ≡ newly_shown number parent fun kinds (all_meant args.items)) }
 {
     let kinds = fun_at(code.parts(), fun).locals.items();
     Ok(Shred::new(alloc, number, parent, fun, args, kinds)?)

@@ -17,7 +17,8 @@ use Rattle.ck_store.specs.Graph.{unit_keyed, unit_staged}
 use Rattle.ck_code.specs.Machine.{Frame, Taken, taken, calls_native, updates_item, makes_grid}
 use Rattle.rare_steps.specs.Keys.{key_call, key_where_call}
 use Rattle.rare_steps.proofs.Keyed.{is_on_at, keyed_where, staged_by}
-use Rattle.machine_world.specs.Steps.{IsGood, of_top, of_two, of_three, updated, called}
+use Rattle.machine_world.specs.Steps.{IsGood, of_top, of_two, updated}
+use Rattle.machine_world.proofs.Changed.{of_three, called}
 use Rattle.machine_world.proofs.Parts.{fits_first}
 use Rattle.machine_world.proofs.Sends.{good_fits}
 use Rattle.machine_world.proofs.Updates.{tried_fits}

@@ -17,7 +17,8 @@ use Rattle.ck_store.specs.Objects.{field_of, with_field, object_made}
 use Rattle.ck_store.specs.Store.{IsFitting}
 use Rattle.machine_world.specs.Scenes.{Scene, state_over, CanRun}
 use Rattle.machine_world.specs.Shown.{shown, operands_of}
-use Rattle.machine_world.specs.Steps.{of_top, of_two, of_three, updated, called}
+use Rattle.machine_world.specs.Steps.{of_top, of_two, updated}
+use Rattle.machine_world.proofs.Changed.{of_three, called}
 use Rattle.machine_world.proofs.Carried.{good_as, one_found, two_found, three_found}
 use Rattle.machine_world.proofs.Sends.{good_fits}
 use Rattle.machine_world.proofs.Updates.{field_updates}

@@ -15,7 +15,8 @@ use Rattle.ck_code.specs.declared.code.Step.{Step}
 use Rattle.ck_code.specs.Machine.{Effect, Next, Breaks, frame, Taken, taken, tried, makes_array, pushes_made}
 use Rattle.machine_world.specs.Scenes.{Scene, state_over, effect_over}
 use Rattle.machine_world.specs.Shown.{shown, operands_of, frames_of}
-use Rattle.machine_world.specs.Steps.{effect_in, action_on, next_standing}
+use Rattle.machine_world.specs.Steps.{effect_in, next_standing}
+use Rattle.machine_world.proofs.Changed.{action_on}
 use Rattle.machine_world.proofs.Taken.{taken_all, taken_gives}
 use Rattle.rare_steps.specs.Rare.{literal}
 

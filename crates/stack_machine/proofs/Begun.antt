@@ -3,7 +3,8 @@ use Rattle.std.proofs.Common.{◌≡◌, ◌≤◌, ℕ, suc, ℤ, Bool, true, f
 use Rattle.ck_base.specs.declared.limits.TheConstants.{FRESH_TURNS}
 use Rattle.ck_store.specs.Steps.{pick, fresh}
 use Rattle.shred_state.specs.Frames.{Standing, turns_at}
-use Rattle.machine_world.specs.Shown.{Shown, shown, resumed_at}
+use Rattle.machine_world.specs.Shown.{Shown, shown}
+use Rattle.machine_world.proofs.Changed.{resumed_at}
 
 picked : {A : Type 0} (b : Bool) (x y : A) → (if b then x else y) ≡ pick b x y
 picked true x y = refl

@@ -45,7 +45,7 @@ loop-i-preserved c =
     let next : i + 1 ≡ suc i = omega arith in
     let can = subst (λ (args : List Value). CanBegin code main (all_meant args)) (sym none) main_begins in
     let is = begun_shred code shred (i + 1) 0 main c.new.result.items can
-    c.in_ok-new_shred.ensures.new c.in_ok-new_shred.ensures.shown
+    c.in_ok-new_shred.ensures
     ∙ ap (λ (args : List Value). record {
       number = i + 1;
       parent = 0;

@@ -1,19 +1,18 @@
 use Rattle.std.proofs.Common.{◌≡◌, ap, refl, sym, subst, ◌∙◌, arith}
 use Rattle.ck_values.specs.Datum.{meant}
 use Rattle.ck_store.specs.Objects.{method_of}
-use Rattle.ck_store.specs.Store.{Store, State, Gives, Fails, IsFitting}
-use Rattle.ck_code.specs.Machine.{Effect, Breaks}
+use Rattle.ck_store.specs.Store.{Store, Gives, Fails, IsFitting}
 use Rattle.ck_code.specs.declared.instr.Instr.TheVariants.{Virtual, Call}
-use Rattle.machine_world.specs.Scenes.{Scene, scene, state_over, effect_over, Carries}
+use Rattle.machine_world.specs.Scenes.{scene, state_over}
 use Rattle.machine_world.specs.Shown.{shown, operands_of}
-use Rattle.machine_world.specs.Steps.{IsGood, effect_in, state_of}
+use Rattle.machine_world.specs.Steps.{IsGood, effect_in}
 use Rattle.machine_world.specs.Worlds.{StandsFor}
 use Rattle.machine_world.proofs.Carried.{carries_as, carries_trap, breaks_here, good_as}
 use Rattle.machine_world.proofs.Numbered.{length-meant}
 use Rattle.machine_world.proofs.Operands.{operand_meant}
 use Rattle.machine_world.proofs.Parts.{method_refers, refers}
 use Rattle.machine_world.proofs.Results.{ok_then}
-use Rattle.machine_world.proofs.Sends.{calling, sends_on, sends_some, sends_within, sends_fits, sends_breaks, sends_begin, BeginsSo}
+use Rattle.machine_world.proofs.Sends.{calling, sends_some, sends_within, sends_fits, sends_breaks, sends_begin, BeginsSo}
 use Rattle.machine_world.proofs.Stands.{each_so}
 use Rattle.loop_steps.proofs.control.send.Goals.{After-operand, In-Ok}
 use Rattle.loop_steps.proofs.control.send.Goals as goal

@@ -13,7 +13,8 @@ use Rattle.ck_code.specs.declared.code.Step.{Step}
 use Rattle.ck_code.specs.Machine.{Next, step_at, steps_of, enough}
 use Rattle.loop_steps.specs.Ints.{holding, PutsInt, HasUpdated, HasGoneOn, run_from, state_with}
 use Rattle.loop_steps.specs.Runs.{IsOver}
-use Rattle.machine_world.specs.Shown.{Shown, shown, frames_of, with_operands, with_locals, at_place}
+use Rattle.machine_world.specs.Shown.{Shown, shown, frames_of}
+use Rattle.machine_world.proofs.Changed.{with_operands, with_locals, at_place}
 use Rattle.machine_world.specs.Worlds.{counted}
 use Rattle.machine_world.specs.Steps.{IsGood, IsRunnable, effect_in}
 use Rattle.loop_steps.proofs.Runs.{good, with_good}

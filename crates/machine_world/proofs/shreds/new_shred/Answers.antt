@@ -1,7 +1,6 @@
-use Rattle.std.proofs.Common.{◌≡◌, ◌≤◌, ◌∙◌, rules, length, slice_get, ap, subst}
-use Rattle.shred_state.specs.Frames.{new_shred}
-use Rattle.machine_world.specs.Shown.{shown, kinds_of}
-use Rattle.machine_world.proofs.Begins.{params_few, newly_meant}
+use Rattle.std.proofs.Common.{◌≡◌, ◌≤◌, rules, length, slice_get, subst}
+use Rattle.machine_world.specs.Shown.{kinds_of}
+use Rattle.machine_world.proofs.Begins.{params_few}
 use Rattle.machine_world.proofs.shreds.new_shred.Goals as goal
 
 pub new-requires : goal.new-requires
@@ -12,10 +11,3 @@ new-requires c =
       few = subst (λ ks. length c.args.args.items ≤ length ks) kinds
           (params_few code c.parts.ensures.verified c.args.fun _ c.requires);
     }
-
-pub returns-clause-shown : goal.returns-clause-shown
-returns-clause-shown c =
-    let kinds = kinds_of (slice_get c.args.code.now.funs c.args.fun) in
-    let is : c.in_ok-new.field-0 ≡ new_shred c.args.number c.args.parent c.args.fun kinds c.args.args.items =
-    search rules in
-    ap shown is ∙ newly_meant c.args.number c.args.parent c.args.fun kinds c.args.args.items

@@ -35,7 +35,7 @@ returns-in_ok-push-in-Ok c =
     c.in_ok-push-in-Ok.ensures.pushed
     ∙ ap (λ (s : Standing). with_operands s (v ∷ s.top.operands)) c.in_ok-items.ensures.left in
     let new : c.go_on.new.shred ≡ next_standing old old.top.locals (v ∷ drop n old.top.operands) =
-    c.go_on.ensures.new
+    c.go_on.ensures.next
     ∙ ap (λ (s : Standing). next_standing s s.top.locals s.top.operands) pushed in
     record {
       carries = λ code acts.

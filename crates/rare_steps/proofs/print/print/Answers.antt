@@ -36,7 +36,7 @@ returns c =
     let line = c.in_ok-line.line in
     let new : c.go_on.new.shred
     ≡ next_standing old old.top.locals (drop (length kinds) old.top.operands) =
-    c.go_on.ensures.new
+    c.go_on.ensures.next
     ∙ ap (λ (s : Standing). next_standing s s.top.locals s.top.operands) c.drop_operands.ensures in
     record {
       carries = λ world.

@@ -77,7 +77,7 @@ returns c =
     (c.in_ok-push-2.ensures {u = tt}).pushed
     ∙ ap (λ (s : Standing). with_operands s (Number id ∷ s.top.operands)) c.in_ok-args.ensures.left in
     let new : c.go_on.new.shred ≡ next_standing left left.top.locals operands =
-    c.go_on.ensures.new
+    c.go_on.ensures.next
     ∙ ap (λ (s : Standing). next_standing s s.top.locals s.top.operands) pushed in
     let recorded = c.in_ok-push.ensures
     ∙ ap (λ values. acts ++ Begun id g values ∷ []) c.in_ok-args.ensures.taken in

@@ -7,7 +7,8 @@ use Rattle.ck_code.specs.Potential.{potential}
 use Rattle.ck_code.specs.Verified.{IsVerified}
 use Rattle.std.specs.Bool.{OnFalse}
 use Rattle.machine_world.specs.Shown.{shown, frames_of}
-use Rattle.machine_world.specs.Steps.{IsGood, IsAhead, Matches, effect_on, state_of, joined}
+use Rattle.machine_world.specs.Steps.{IsGood, IsAhead, Matches, state_of, joined}
+use Rattle.machine_world.proofs.Changed.{effect_on}
 use Rattle.machine_world.specs.Tries.{HasStore}
 use Rattle.machine_world.specs.Worlds.{StandsFor, counted}
 use Rattle.loop_steps.specs.Ints.{PutsInt, HasGoneOn, holding, run_from}
@@ -233,7 +234,7 @@ run-preserved-then-branch c =
       steps = ap (λ parts. steps_of (slice_get parts.funs fun)) (sym c.parts-parts.ensures.parts)
           ∙ ap (λ f. steps_of (slice_get parts.funs f)) (sym (fun_meant _ _ c.fun-then-branch.ensures))
           ∙ c.steps_at-steps-then-branch.ensures;
-      here = then.here;
+      here = place_meant c.go_on_with_int.new.shred _ then.here;
       from = then.from;
       same = record {
         number = then.same.number ∙ before.same.number;
@@ -283,7 +284,7 @@ run-preserved-else-branch c =
     c.if-branch.false then.fun in
     record {
       steps = ap (λ f. steps_of (slice_get c.args.code.now.funs f)) fun ∙ before.steps;
-      here = then.here;
+      here = place_meant c.go_on_with_int.new.shred _ then.here;
       from = then.from;
       same = record {
         number = then.same.number ∙ before.same.number;

@@ -36,7 +36,7 @@ returns-clause-child c = λ run stands.
     ∙ ap (λ s. shreds_of m.code m.shreds.items
     ++ s ∷ [])
     (begun_shred m.code child c.args.number c.args.parent c.args.fun args c.requires.begins
-    c.in_ok-child.ensures.new c.in_ok-child.ensures.shown))
+    c.in_ok-child.ensures))
     (due_pushed m.due c.shredule.new.self _ _ c.args.number c.in_ok-shredule.ensures.due
     (to_z-of_z w64 c.now.result fits ∙ c.now.ensures.now ∙ sym (now_is m.world run.store stands.store)))
     (sym (c.is_live.ensures run stands) ∙ c.if-not-is_live.false) stands

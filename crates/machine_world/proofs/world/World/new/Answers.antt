@@ -1,4 +1,4 @@
-use Rattle.std.proofs.Common.{◌≡◌, ◌+◌, [], length, pos, ap, sym, ◌∙◌, subst, rules}
+use Rattle.std.proofs.Common.{◌≡◌, ◌+◌, [], length, pos, ap, ◌∙◌, rules}
 use Rattle.rand_pcg.specs.Lcg.{Lcg}
 use Rattle.ck_values.specs.Datum.{all_meant}
 use Rattle.ugen_sample.specs.UnitState.{first_units}
