@@ -1,12 +1,12 @@
 -- What running a slice leaves.
 use Rattle.std.proofs.Common.{◌≡◌, ℕ, List, slice_get, slice_set, Result, Ok, Err, IfOk, Some, IfSome, OnOk, sym, ◌∙◌}
 use Rattle.fixed_point.specs.declared.memory.Memory.{Memory}
-use Rattle.ck_store.specs.Store.{Store}
 use Rattle.shred_state.specs.Frames.{Standing}
 use Rattle.machine_world.specs.declared.acts.Act.{Act}
 use Rattle.machine_world.specs.declared.course.Stop.{Stop}
+use Rattle.stack_machine.specs.Fitting.{OfSuited}
 use Rattle.stack_machine.specs.Slices.{Tells, slice_of, begun_of}
-use Rattle.machine_world.specs.Worlds.{StandsFor, counted}
+use Rattle.machine_world.specs.Worlds.{counted}
 use Rattle.chuck_vm.specs.declared.machine.Machine.{Machine}
 use Rattle.chuck_vm.specs.Running.{Ran}
 use Rattle.chuck_vm.proofs.Lists.{at_some}
@@ -21,12 +21,12 @@ module _ (old new : Machine) (place : ℕ) (shred after : Standing) (acts : List
     pub code_is : new.code ≡ old.code
 
   pub ran_by : (r : Result Stop Memory) → Leaves
-      → IfOk r (λ stop. (store : Store) → StandsFor old.world store
-      → Tells stop (slice_of old.code shred store) old.code after new.world acts)
+      → IfOk r (λ stop. OfSuited old.code shred old.world (λ store.
+      Tells stop (slice_of old.code shred store) old.code after new.world acts))
       → OnOk r (new.world.time ≡ old.world.time) → OnOk r (after.number ≡ shred.number)
       → OnOk r (after.parent ≡ shred.parent) → OnOk r (after.last ≡ old.world.time)
-      → OnOk r ((store : Store) → StandsFor old.world store
-      → new.world.ran ≡ counted old.world.ran (begun_of old.code shred store))
+      → OnOk r (OfSuited old.code shred old.world (λ store.
+      new.world.ran ≡ counted old.world.ran (begun_of old.code shred store)))
       → IfOk r (λ stop. IfSome (slice_get old.shreds.items place) (λ shred. Ran stop shred place old new acts))
   ran_by (Err error) leaves tells time number parent last ran = tt
   ran_by (Ok stop) leaves tells time number parent last ran =

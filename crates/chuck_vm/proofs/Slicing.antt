@@ -26,6 +26,7 @@ use Rattle.shred_state.specs.Frames.{Standing}
 use Rattle.machine_world.specs.Acts.{all_acts_meant}
 use Rattle.machine_world.specs.Shown.{shown, frames_of}
 use Rattle.machine_world.specs.Worlds.{counted}
+use Rattle.stack_machine.specs.Fitting.{AreSuited}
 use Rattle.stack_machine.specs.Slices.{Tells, slice_of, begun_of}
 use Rattle.machine_world.specs.Worlds.{Parts}
 use Rattle.machine_world.specs.declared.acts.Act.{Act as Recorded}
@@ -273,9 +274,20 @@ module _ (old m2 : Machine) (n place : ℕ) (stop : MachineStop) (acts : List Re
   halt = slice_on code standing.number (enough code) (stopped_at code (frames_of (shown standing)))
       standing.last standing.turns (frames_of (shown standing)) before
 
+  s_fits : Fits before s.progress
+  s_fits = (found_has (λ (s : Shred Stopped). Fits before s.progress) (λ t. nat_eq t.number n) run.shreds s
+      scene.can.can.sound.fits scene.found).1
+
+  suited : AreSuited code standing before
+  suited = record {
+    verified = verified;
+    main = s_fits.main;
+    fit = record { frames_fit = s_fits.frames; store_fits = scene.can.can.sound.store.fits };
+  }
+
   pub told_so : Tells stop halt code ran.after m2.world acts
   told_so = subst (λ h. Tells stop h code ran.after m2.world acts) (same_halt code standing before)
-      (ran.tells before scene.stands.store)
+      (ran.tells before scene.stands.store suited)
 
   abbrev after : Store
   after = told_so.state.store
@@ -291,10 +303,6 @@ module _ (old m2 : Machine) (n place : ℕ) (stop : MachineStop) (acts : List Re
 
   abbrev theirs : Slice Stopped
   theirs = cod.slice s.number s.progress before
-
-  s_fits : Fits before s.progress
-  s_fits = (found_has (λ (s : Shred Stopped). Fits before s.progress) (λ t. nat_eq t.number n) run.shreds s
-      scene.can.can.sound.fits scene.found).1
 
   kept_theirs : IsKept cod turns_at (IsRunStore code) Fits s.progress before theirs
   kept_theirs = (lawful code verified).slices s.number s.progress before scene.can.can.sound.store s_fits
@@ -465,7 +473,7 @@ module _ (old m2 : Machine) (n place : ℕ) (stop : MachineStop) (acts : List Re
       (where_tells (silent acted) (live (silent acted) n) (stop_meant stop)).begun_are in
       let all : whole.begun ≡ begun_of old.code standing before =
       omega (arith, begun, none, no_more) ∙ sym (same_begun old.code standing before) in
-      is ∙ ran.ran_is before scene.stands.store ∙ ap (counted old.world.ran) (sym all)
+      is ∙ ran.ran_is before scene.stands.store suited ∙ ap (counted old.world.ran) (sym all)
 
   bytes_are : (names : List (List ℕ)) → text_bytes names whole.text ≡ text_bytes names (written meant)
       ++ (trap_lines names wake wake.trap ++ text_bytes names rest.text)

@@ -3,7 +3,6 @@ use Rattle.std.specs.Prelude.{◌≡◌, ℕ, ◌+◌, ◌≤◌, ℤ, ◌<ℤ�
 use Rattle.ck_code.specs.declared.code.CodeParts.{CodeParts}
 use Rattle.ck_code.specs.Verified.{IsVerified}
 use Rattle.ck_meaning.specs.Replay.{Stopped, by_code}
-use Rattle.ck_store.specs.Store.{Store}
 use Rattle.ck_run.specs.Run.{Run, live, run_slice, first_due, settled}
 use Rattle.ck_run.specs.Sound.{IsOrderly, IsSound, measure, times_due, times_waiting}
 use Rattle.ck_run.specs.Told.{silent}
@@ -11,7 +10,8 @@ use Rattle.run_laws.specs.FitRuns.{IsRunStore, IsFitShred, turns_at}
 use Rattle.shred_state.specs.Frames.{Standing}
 use Rattle.machine_world.specs.declared.acts.Act.{Act}
 use Rattle.machine_world.specs.declared.course.Stop.{Stop}
-use Rattle.machine_world.specs.Worlds.{StandsFor, counted}
+use Rattle.machine_world.specs.Worlds.{counted}
+use Rattle.stack_machine.specs.Fitting.{OfSuited}
 use Rattle.stack_machine.specs.Slices.{Tells, slice_of, begun_of}
 use Rattle.chuck_vm.specs.declared.machine.Machine.{Machine}
 use Rattle.chuck_vm.specs.Machine.{HasRun, OfEach}
@@ -57,13 +57,13 @@ IsQuietBefore time machine = OfEach machine (λ run.
 pub record Ran (stop : Stop) (shred : Standing) (place : ℕ) (old new : Machine)
     (acts : List Act) : Type 0 where
   pub after : Standing
-  pub tells : (store : Store) → StandsFor old.world store →
-      Tells stop (slice_of old.code shred store) old.code after new.world acts
+  pub tells : OfSuited old.code shred old.world (λ store.
+      Tells stop (slice_of old.code shred store) old.code after new.world acts)
   pub number_is : after.number ≡ shred.number
   pub parent_is : after.parent ≡ shred.parent
   pub last_is : after.last ≡ new.world.time
-  pub ran_is : (store : Store) → StandsFor old.world store →
-      new.world.ran ≡ counted old.world.ran (begun_of old.code shred store)
+  pub ran_is : OfSuited old.code shred old.world (λ store.
+      new.world.ran ≡ counted old.world.ran (begun_of old.code shred store))
   pub shreds_are : new.shreds.items ≡ slice_set old.shreds.items place after
   pub due_is : new.due ≡ old.due
   pub waits_are : new.waits ≡ old.waits

@@ -10,6 +10,7 @@ ghost use Rattle.ck_run.specs.Run.{applied, trap_of, written};
 ghost use Rattle.ck_run.specs.Sound.{AreNumbered, AllSporks};
 ghost use Rattle.ck_run.specs.Told.{AddsFront};
 ghost use Rattle.machine_world.specs.Acts.{all_acts_meant};
+ghost use Rattle.machine_world.specs.Tries.{HasStore};
 ghost use Rattle.stack_machine.specs.Fitting.{AreSuited};
 ghost use Rattle.chuck_vm.specs.Machine.{Does, HasRun, Stands};
 ghost use Rattle.chuck_vm.specs.Running.{CanRun, CanRunSlice, IsNumbered, IsQuietBefore};
@@ -45,7 +46,7 @@ impl Machine {
         requires within { place < length self.old.shreds.items }
         requires empty { acts.old ≡ [] }
         requires suited { IfSome (slice_get self.old.shreds.items place) (λ shred.
-            AreSuited self.old.code shred self.old.world) }
+            HasStore self.old.world (AreSuited self.old.code shred)) }
         ensures ran { IfOk result (λ stop. IfSome (slice_get self.old.shreds.items place)
             (λ shred. Ran stop shred place self.old self.new acts.new)) }
         ensures code { self.new.code ≡ self.old.code }

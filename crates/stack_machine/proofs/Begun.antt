@@ -1,9 +1,9 @@
 -- A slice that begins, by what the shred's values mean.
-use Rattle.std.proofs.Common.{◌≡◌, ◌≤◌, ℕ, suc, ℤ, Bool, true, false, int_lt, if◌then◌else◌, refl, ap, ◌∙◌}
+use Rattle.std.proofs.Common.{◌≡◌, ◌≤◌, suc, ℤ, Bool, true, false, int_lt, if◌then◌else◌, refl, ap, ◌∙◌}
 use Rattle.ck_base.specs.declared.limits.TheConstants.{FRESH_TURNS}
 use Rattle.ck_store.specs.Steps.{pick, fresh}
 use Rattle.shred_state.specs.Frames.{Standing, turns_at}
-use Rattle.machine_world.specs.Shown.{Shown, shown}
+use Rattle.machine_world.specs.Shown.{shown}
 use Rattle.machine_world.proofs.Changed.{resumed_at}
 
 picked : {A : Type 0} (b : Bool) (x y : A) → (if b then x else y) ≡ pick b x y

@@ -5,14 +5,14 @@ use Rattle.ck_code.specs.declared.code.CodeParts.{CodeParts}
 use Rattle.ck_code.specs.declared.code.Step.{Step}
 use Rattle.ck_code.specs.declared.instr.Instr.TheVariants.{Dup}
 use Rattle.ck_code.specs.Machine.{tried, doubles, pushes}
-use Rattle.ck_store.specs.Store.{State, Store, Gives}
+use Rattle.ck_store.specs.Store.{State, Gives}
 use Rattle.ck_values.specs.declared.trap.Place.{Place}
 use Rattle.shred_state.specs.Frames.{Standing}
 use Rattle.machine_world.specs.Scenes.{Scene, scene, state_over, Carries}
 use Rattle.machine_world.specs.Shown.{Shown, shown, operands_of}
 use Rattle.machine_world.specs.Steps.{effect_in, of_top, IsPut}
 use Rattle.machine_world.specs.declared.course.Then.TheVariants.{GoesOn}
-use Rattle.machine_world.proofs.Carried.{carries_put, put_over}
+use Rattle.machine_world.proofs.Carried.{carries_put}
 
 doubles_so : (s : Shown) (place : Place) (state : State) (operands : List Datum)
     → doubles s.top.fun s.top.place s.top.locals operands s.below state

@@ -7,7 +7,7 @@ ghost use Rattle.machine_world.specs.Shown.{shown, frames_of};
 ghost use Rattle.machine_world.specs.Tries.{HasStore};
 ghost use Rattle.machine_world.specs.Worlds.{StandsFor, counted};
 ghost use Rattle.machine_world.specs.Steps.{IsSame, state_of};
-ghost use Rattle.stack_machine.specs.Fitting.{FitBy, AreSuited, StaysFit};
+ghost use Rattle.stack_machine.specs.Fitting.{FitBy, AreSuited, OfSuited, StaysFit};
 ghost use Rattle.loop_steps.specs.Runs.{IsOver, run_of, begun_by};
 ghost use Rattle.stack_machine.specs.Slices.{EndsAs, Tells, slice_of, begun_of};
 
@@ -34,12 +34,13 @@ fn run(
         IsOver (run_of code.now shred.old (state_of shred.old store acts.old))) }
     ensures ends { (store : Store) → StandsFor world.old store →
         let slice = run_of code.now shred.old (state_of shred.old store acts.old) in
-        IfOk result (λ stop. HasStore world.new (λ after.
+        IsOver slice → IfOk result (λ stop. HasStore world.new (λ after.
         EndsAs stop slice code.now shred.new (state_of shred.new after acts.new))) }
     ensures same { OnOk result (IsSame shred.old shred.new) }
     ensures ran { (store : Store) → StandsFor world.old store →
-        let more = begun_by code.now shred.old (state_of shred.old store acts.old) in
-        OnOk result (world.new.ran ≡ counted world.old.ran more) }
+        let old = state_of shred.old store acts.old in
+        IsOver (run_of code.now shred.old old) → OnOk result
+        (world.new.ran ≡ counted world.old.ran (begun_by code.now shred.old old)) }
 {
     let parts = code.parts();
     let mut steps = steps_at(parts, shred.fun());
@@ -95,8 +96,8 @@ fn stopped_at(code: &CodeParts, shred: &Shred) -> Place
 /// gone on since its last slice, the slice's own turn is spent, and it goes on to the next stop.
 /// Where no turn is left it traps at the place of the wait at which it stopped.
 ///
-/// What it tells holds for every store that the world stands for. After `Memory` the caller gives
-/// the shred, the world and the acts up.
+/// What it tells holds for every store that the world stands for and that fits. After `Memory` the
+/// caller gives the shred, the world and the acts up.
 pub fn slice(
     alloc: Global,
     code: &Code,
@@ -105,9 +106,9 @@ pub fn slice(
     acts: &mut Acts,
 ) -> Result<Stop, Memory>
     requires empty { acts.old ≡ [] }
-    requires fit { AreSuited code.now shred.old world.old }
-    ensures tells { IfOk result (λ stop. (store : Store) → StandsFor world.old store →
-        Tells stop (slice_of code.now shred.old store) code.now shred.new world.new acts.new) }
+    requires fit { HasStore world.old (AreSuited code.now shred.old) }
+    ensures tells { IfOk result (λ stop. OfSuited code.now shred.old world.old (λ store.
+        Tells stop (slice_of code.now shred.old store) code.now shred.new world.new acts.new)) }
     ensures still_fit { IfOk result (λ stop. (store : Store) → StandsFor world.old store →
         (verified : IsVerified code.now) (main : ℕ) →
         FitBy code.now verified main shred.old store →
@@ -116,8 +117,8 @@ pub fn slice(
     ensures number { OnOk result (shred.new.number ≡ shred.old.number) }
     ensures parent { OnOk result (shred.new.parent ≡ shred.old.parent) }
     ensures last { OnOk result (shred.new.last ≡ world.old.time) }
-    ensures ran { OnOk result ((store : Store) → StandsFor world.old store →
-        world.new.ran ≡ counted world.old.ran (begun_of code.now shred.old store)) }
+    ensures ran { OnOk result (OfSuited code.now shred.old world.old (λ store.
+        world.new.ran ≡ counted world.old.ran (begun_of code.now shred.old store))) }
 {
     shred.fresh(world.now());
     if !shred.spend() {

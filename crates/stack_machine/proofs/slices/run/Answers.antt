@@ -18,7 +18,6 @@ use Rattle.stack_machine.specs.Slices.{EndsAs}
 use Rattle.machine_world.specs.declared.course.Then.{Then}
 use Rattle.machine_world.specs.declared.course.Then.TheVariants.{GoesOn, Moves, Stopped}
 use Rattle.machine_world.proofs.Runnable.{runnable_at}
-use Rattle.machine_world.proofs.Stands.{each_so}
 use Rattle.loop_steps.proofs.Meant.{fun_meant, place_meant}
 use Rattle.loop_steps.proofs.Runs.{good, has_step, has_fun, found_in, next_in, counted_twice}
 use Rattle.loop_steps.proofs.OnInts.{LeadsTo, one_on, counted_on, alike_on, one_lower, effect_there, puts}
@@ -440,13 +439,13 @@ run-preserved c =
     }
 
 pub returns-in-Over-clause-ends : goal.returns-in-Over-clause-ends
-returns-in-Over-clause-ends c = λ store stands.
+returns-in-Over-clause-ends c = λ store stands over.
     let code = c.args.code.now in
     let stop = c.step.new.stop in
     let there = (goal.at.returns-in-Over-clause-ends c).In_ok-step in
     let behind =
     stays_as _ (Stopped stop) _ _ (ap (λ course. joined course stop) c.in-Over.is) c.in_ok-step.ensures.carries.stays in
-    let before = c.run.invariant.gone store stands (each_so _ _ c.requires.over store stands) in
+    let before = c.run.invariant.gone store stands over in
     let one = followed there (Stopped stop) (ap (λ course. joined course stop) c.in-Over.is)
     before.store before.stands in
     record {
@@ -460,11 +459,11 @@ returns-in-Over-clause-ends c = λ store stands.
     }
 
 pub returns-in-Over-clause-ran : goal.returns-in-Over-clause-ran
-returns-in-Over-clause-ran c = λ store stands.
+returns-in-Over-clause-ran c = λ store stands over.
     let code = c.args.code.now in
     let stop = c.step.new.stop in
     let there = (goal.at.returns-in-Over-clause-ran c).In_ok-step in
-    let before = c.run.invariant.gone store stands (each_so _ _ c.requires.over store stands) in
+    let before = c.run.invariant.gone store stands over in
     let last = followed there (Stopped stop) (ap (λ course. joined course stop) c.in-Over.is)
     before.store before.stands in
     let one = begun_one code (shown c.run.shred).number stop (enough code) _ _ _ c.step.new.shred

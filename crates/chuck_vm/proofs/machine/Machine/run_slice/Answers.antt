@@ -8,6 +8,7 @@ use Rattle.ck_run.specs.Run.{Shred, Wake, has, live, carried_out_where}
 use Rattle.ck_run.proofs.Lists.{found_has}
 use Rattle.run_laws.specs.FitRuns.{IsFitShred}
 use Rattle.shred_state.specs.Frames.{Standing}
+use Rattle.machine_world.specs.Tries.{HasStore}
 use Rattle.stack_machine.specs.Fitting.{AreSuited}
 use Rattle.chuck_vm.specs.Machine.{numbers, Does}
 use Rattle.chuck_vm.specs.Wakes.{names_of, wake_meant, stop_meant}
@@ -63,12 +64,14 @@ slice_at-requires-clause-suited c =
     (found_has
     (λ (s : Shred Stopped). IsFitShred old.code can.verified.typing some.run.store s.progress) _ _ _
     can.sound.fits found).1 in
-    at_some (λ (shred : Standing). AreSuited old.code shred old.world) _ p.one p.at (record {
+    at_some (λ (shred : Standing). HasStore old.world (AreSuited old.code shred)) _ p.one p.at (record {
       store = some.run.store;
       stands = some.stands.store;
-      verified = can.verified;
-      main = fits.main;
-      fit = record { frames_fit = fits.frames; store_fits = can.sound.store.fits };
+      so = record {
+        verified = can.verified;
+        main = fits.main;
+        fit = record { frames_fit = fits.frames; store_fits = can.sound.store.fits };
+      };
     })
 
 pub apply_all-requires : goal.apply_all-requires
