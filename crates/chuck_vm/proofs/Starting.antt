@@ -13,7 +13,7 @@ use Rattle.shred_state.specs.Frames.{Standing}
 use Rattle.shreduler.specs.Queue as queue
 use Rattle.machine_world.specs.Worlds.{StandsFor}
 use Rattle.chuck_vm.specs.declared.machine.Machine.{Machine}
-use Rattle.chuck_vm.specs.Machine.{shred_of, shreds_of, due_of, wait_of, Stands}
+use Rattle.chuck_vm.specs.Machine.{shred_of, shreds_of, due_of, wait_of, AreDueAlike, Stands}
 use Rattle.chuck_vm.specs.Telling.{CanBegin}
 use Rattle.chuck_vm.proofs.Dues.{same_due}
 use Rattle.chuck_vm.proofs.Lists.{map-push}
@@ -86,19 +86,22 @@ module _ (code : CodeParts) (number : ℕ) (left : List ℕ) (shreds : List Stan
   pub all_stand : shreds_of code shreds ≡ first_shreds (by_code code) 1 code.mains
   all_stand = sym (append-nil (shreds_of code shreds)) ∙ all.shreds_are
 
-  pub all_due : map due_of dues ≡ map first_due_of (first_shreds (by_code code) 1 code.mains)
-  all_due = sym (append-nil (map due_of dues)) ∙ all.dues_are
+  pub all_due : AreDueAlike (map due_of dues) (map first_due_of (first_shreds (by_code code) 1 code.mains))
+  all_due =
+      same_due (map due_of dues) (map first_due_of (first_shreds (by_code code) 1 code.mains))
+      (sym (append-nil (map due_of dues)) ∙ all.dues_are)
 
 -- the machine with them stands for the run that hasn't begun
 pub all_started : (machine : Machine)
     → StandsFor machine.world (first_store (length machine.code.mains) machine.code.statics)
     → machine.waits ≡ []
     → shreds_of machine.code machine.shreds.items ≡ first_shreds (by_code machine.code) 1 machine.code.mains
-    → map due_of machine.due ≡ map first_due_of (first_shreds (by_code machine.code) 1 machine.code.mains)
+    → AreDueAlike (map due_of machine.due)
+    (map first_due_of (first_shreds (by_code machine.code) 1 machine.code.mains))
     → Stands machine (run_code machine.code 0)
 all_started machine world waits shreds due = record {
   store = world;
   shreds = shreds;
-  due = same_due (map due_of machine.due) (run_code machine.code 0).due due;
+  due = due;
   waits = ap (map wait_of) waits;
 }

@@ -5,7 +5,7 @@ ghost use Rattle.std.specs.List.Sorted.{IsNonDecreasingBy};
 ghost use Rattle.ck_run.specs.Run.{has, live, ended, first_shreds, first_due_of};
 ghost use Rattle.ck_code.specs.Verified.{IsVerified};
 ghost use Rattle.ck_meaning.specs.Replay.{by_code, run_code};
-ghost use Rattle.chuck_vm.specs.Machine.{numbers, ends_behind, shreds_of, due_of};
+ghost use Rattle.chuck_vm.specs.Machine.{numbers, ends_behind, shreds_of, due_of, AreDueAlike};
 ghost use Rattle.chuck_vm.specs.Machine.{Does, Reads, Stands};
 ghost use Rattle.chuck_vm.specs.Running.{IsNumbered};
 
@@ -71,8 +71,8 @@ fn add_mains(
     requires none_due { due.old ≡ [] }
     ensures shreds { OnOk result
         (shreds_of code.now shreds.new.items ≡ first_shreds (by_code code.now) 1 code.now.mains) }
-    ensures due { OnOk result (map due_of due.new
-        ≡ map first_due_of (first_shreds (by_code code.now) 1 code.now.mains)) }
+    ensures due { OnOk result (AreDueAlike (map due_of due.new)
+        (map first_due_of (first_shreds (by_code code.now) 1 code.now.mains))) }
     ensures verified { IsVerified code.now }
 {
     for (i, main) in code.parts().mains.items().iter().enumerate() {
