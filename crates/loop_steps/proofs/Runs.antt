@@ -1,5 +1,5 @@
 -- Slices of at most so many instructions.
-use Rattle.std.proofs.Common.{◌≡◌, ◌<◌, ◌≤◌, ◌+◌, ◌-◌, ℕ, zero, suc, List, [], ◌∷◌, Option, Some, None, IsSome, slice_get}
+use Rattle.std.proofs.Common.{◌≡◌, ℕ, zero, suc, List, [], ◌∷◌, Option, Some, None, IsSome, slice_get}
 use Rattle.std.proofs.Common.{refl, sym, ap, ◌∙◌, subst, arith}
 use Rattle.ck_values.specs.declared.operator.Op2.{Op2 as Operator}
 use Rattle.ck_values.specs.declared.trap.Place.{Place}
@@ -12,16 +12,13 @@ use Rattle.ck_code.specs.declared.code.Step.{Step}
 use Rattle.ck_code.specs.Machine.{Frame, Effect, Next, Stops, Over, Breaks, Bad, replaces_two}
 use Rattle.ck_code.specs.Machine.{step_at, steps_of, with_step, next_effect, go_on}
 use Rattle.ck_code.specs.Machine.{exec, one_more, begun, enough}
-use Rattle.ck_code.specs.Potential.{potential}
-use Rattle.ck_code.specs.Verified.{IsVerified}
-use Rattle.ck_code.proofs.Ends.{leads_lower}
 use Rattle.shred_state.specs.Frames.{Standing}
 use Rattle.machine_world.specs.Shown.{shown, frames_of}
 use Rattle.machine_world.specs.declared.acts.Act.{Act}
 use Rattle.machine_world.specs.Steps.{IsGood, state_of}
 use Rattle.machine_world.proofs.Changed.{effect_on}
 use Rattle.machine_world.specs.Steps.{of_two}
-use Rattle.loop_steps.specs.Runs.{IsOver, run_of, begun_by}
+use Rattle.loop_steps.specs.Runs.{IsOver, run_of}
 use Rattle.machine_world.specs.Worlds.{counted}
 use Rattle.machine_world.proofs.Sends.{good_fits}
 
@@ -141,44 +138,6 @@ pub has_fun : (code : CodeParts) (shred : Standing) (s : State) → IsOver (run_
 has_fun code shred s over =
     some_fun (slice_get code.funs (shown shred).top.fun) (shown shred).top.place
     (has_step code (shown shred).number (enough code) shred s over)
-
--- a slice that is over is over one instruction on too, ends alike, and begins one fewer; what it can do
--- yet is less
-pub record OneOn (code : CodeParts) (shred shred1 : Standing) (s s1 : State) : Type 0 where
-  pub over : IsOver (run_of code shred1 s1)
-  pub alike : run_of code shred1 s1 ≡ run_of code shred s
-  pub fewer : begun_by code shred s ≡ suc (begun_by code shred1 s1)
-  pub lower : potential code s1.turns (frames_of (shown shred1))
-      < potential code s.turns (frames_of (shown shred))
-
-pub one_on : (code : CodeParts) → IsVerified code → (shred shred1 : Standing) (s s1 : State)
-    → (shown shred1).number ≡ (shown shred).number
-    → next_effect code (shown shred).number (frames_of (shown shred)) s ≡ Next (frames_of (shown shred1)) s1
-    → IsOver (run_of code shred s) → OneOn code shred shred1 s s1
-one_on code verified shred shred1 s s1 number next over =
-    let n = (shown shred).number in
-    let k = enough code in
-    let frames = frames_of (shown shred1) in
-    let alike : run_of code shred1 s1 ≡ run_of code shred s =
-    ap (λ n. exec code n k frames s1) number
-    ∙ same_on code n k (frames_of (shown shred)) frames s s1 next over in
-    record {
-      over = subst IsOver (sym alike) over;
-      alike = alike;
-      fewer = begun_on code n k (frames_of (shown shred)) frames s s1 next over
-          ∙ ap (λ n. suc (begun code n k frames s1)) (sym number);
-      lower = leads_lower code verified n (frames_of (shown shred)) frames s s1 next;
-    }
-
--- one instruction more in the line that isn't counted yet
-pub counted_ahead : (ran here from old new : ℕ) → from ≤ here → old ≡ suc new
-    → counted ran ((here + 1 - from) + new) ≡ counted ran ((here - from) + old)
-counted_ahead ran here from old new ahead one = omega (arith, ahead, one)
-
--- the line is counted, and another one begins at a place
-pub counted_apart : (ran line ran1 place old new : ℕ) → ran1 ≡ counted ran (line + 1)
-    → old ≡ suc new → counted ran1 ((place - place) + new) ≡ counted ran (line + old)
-counted_apart ran line ran1 place old new is one = omega (arith, is, one)
 
 -- what was counted apart is counted in one
 pub counted_twice : (ran more : ℕ) → counted ran (counted 0 more) ≡ counted ran more

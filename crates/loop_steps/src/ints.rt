@@ -11,12 +11,12 @@ ghost use Rattle.ck_code.specs.Machine.{steps_of};
 ghost use Rattle.ck_store.specs.Operators.{binary};
 ghost use Rattle.ck_store.specs.Steps.{is_zero, pick, local_of, with_local};
 ghost use Rattle.ck_store.specs.Store.{State, Gives, IsFitting};
-ghost use Rattle.machine_world.specs.Shown.{shown, locals_of, operands_of};
+ghost use Rattle.machine_world.specs.Shown.{locals_of, operands_of};
 ghost use Rattle.shred_state.specs.Frames.{with_operands, with_locals};
 ghost use Rattle.machine_world.specs.Steps.{of_two, updated, IsSame};
 ghost use Rattle.loop_steps.specs.Ints.{CanPut, PutsInt, HasOperated, HasUpdated, holding};
-ghost use Rattle.loop_steps.specs.Ints.{state_with, run_from, HasGoneOn};
-ghost use Rattle.loop_steps.specs.Runs.{IsOver};
+ghost use Rattle.loop_steps.specs.Ints.{state_with, HasGoneOn};
+ghost use Rattle.loop_steps.specs.Runs.{IsOver, run_of};
 ghost use Rattle.machine_world.specs.Worlds.{counted};
 
 use ck_code::{Code, Instr, Step};
@@ -144,22 +144,21 @@ pub fn go_on_with_int(
     begun: &mut u64,
     first: i64,
 ) -> Result<bool, Memory>
-    requires steps { steps_of (slice_get code.now.funs (shown shred.old).top.fun)
-        ≡ first_steps.now }
+    requires steps { steps_of (slice_get code.now.funs shred.old.top.fun) ≡ first_steps.now }
     requires here { here.old < 2 ^ 64 - 1 }
     requires from { from.old ≤ here.old }
-    requires over { let first = holding (shown shred.old) first (here.old + 1) in
-        (s : State) × IsOver (run_from code.now first (state_with s (shown shred.old).turns)) }
+    requires over { let first = holding shred.old first (here.old + 1) in
+        (s : State) × IsOver (run_of code.now first (state_with s shred.old)) }
     ensures gone { (s : State) → let line = here.old + 1 - from.old in
-        let first = holding (shown shred.old) first (here.old + 1) in
-        let old = state_with s (shown shred.old).turns in
-        let new = state_with s (shown shred.new).turns in
-        IsOver (run_from code.now first old) → OnOk result (HasGoneOn code.now
-        begun.old line first old begun.new (here.new - from.new) (shown shred.new) new) }
+        let first = holding shred.old first (here.old + 1) in
+        let old = state_with s shred.old in
+        IsOver (run_of code.now first old) → OnOk result (HasGoneOn code.now
+        begun.old line first old begun.new (here.new - from.new) shred.new
+        (state_with s shred.new)) }
     ensures here { OnOk result (here.new ≡ shred.new.top.place) }
     ensures from { OnOk result (from.new ≤ here.new) }
     ensures fun { IfOk result (λ moved.
-        OnFalse moved ((shown shred.new).top.fun ≡ (shown shred.old).top.fun)) }
+        OnFalse moved (shred.new.top.fun ≡ shred.old.top.fun)) }
     ensures same { OnOk result (IsSame shred.old shred.new) }
 {
     let parts = code.parts();

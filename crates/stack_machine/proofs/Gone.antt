@@ -2,12 +2,12 @@
 use Rattle.std.proofs.Common.{◌≡◌, ◌+◌, ◌-◌, ℕ, refl, ◌∙◌, arith}
 use Rattle.ck_code.specs.declared.code.CodeParts.{CodeParts}
 use Rattle.ck_store.specs.Store.{State}
-use Rattle.machine_world.specs.Shown.{Shown}
-use Rattle.loop_steps.specs.Ints.{HasGoneOn, run_from}
-use Rattle.loop_steps.specs.Runs.{IsOver}
+use Rattle.shred_state.specs.Frames.{Standing}
+use Rattle.loop_steps.specs.Ints.{HasGoneOn}
+use Rattle.loop_steps.specs.Runs.{IsOver, run_of}
 
 -- not yet
-pub starts : (code : CodeParts) (s : Shown) (t : State) (place : ℕ) → IsOver (run_from code s t)
+pub starts : (code : CodeParts) (s : Standing) (t : State) (place : ℕ) → IsOver (run_of code s t)
     → HasGoneOn code 0 0 s t 0 (place - place) s t
 starts code s t place over = record {
   over = over;
@@ -17,7 +17,7 @@ starts code s t place over = record {
 }
 
 -- and then again
-pub then_on : (code : CodeParts) (a b r k q m : ℕ) (x y z : Shown) (s t u : State)
+pub then_on : (code : CodeParts) (a b r k q m : ℕ) (x y z : Standing) (s t u : State)
     → HasGoneOn code a b x s r k y t → HasGoneOn code r k y t q m z u
     → HasGoneOn code a b x s q m z u
 then_on code a b r k q m x y z s t u first later = record {

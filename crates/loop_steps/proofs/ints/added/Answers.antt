@@ -25,5 +25,5 @@ returns-clause-sum c =
       was = local_meant c.args.shred.now.top.locals c.args.i (Int a)
           (c.local.ensures ∙ ap Some c.in-Int.is);
       gives = sum ∙ ap (λ n. Gives (AnInt n)) (sym (to_z-of_z w64 n fits));
-      set = set_meant _ _ c.args.i _ _ c.set_local.ensures.new c.set_local.ensures.old;
+      set = set_meant _ _ c.args.i _ c.set_local.ensures.new _ c.set_local.ensures.old;
     }

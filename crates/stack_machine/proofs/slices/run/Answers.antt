@@ -6,21 +6,20 @@ use Rattle.ck_code.specs.Machine.{Next, next_effect, enough, steps_of, step_at}
 use Rattle.ck_code.specs.Potential.{potential}
 use Rattle.ck_code.specs.Verified.{IsVerified}
 use Rattle.std.specs.Bool.{OnFalse}
-use Rattle.machine_world.specs.Shown.{shown, frames_of}
+use Rattle.machine_world.specs.Shown.{shown, frames_of, locals_of}
 use Rattle.machine_world.specs.Steps.{IsGood, IsAhead, Matches, state_of, joined}
 use Rattle.machine_world.proofs.Changed.{effect_on}
 use Rattle.machine_world.specs.Tries.{HasStore}
 use Rattle.machine_world.specs.Worlds.{StandsFor, counted}
-use Rattle.loop_steps.specs.Ints.{PutsInt, HasGoneOn, holding, run_from}
+use Rattle.loop_steps.specs.Ints.{PutsInt, HasGoneOn, holding}
 use Rattle.ck_store.specs.Store.{Store, State}
 use Rattle.loop_steps.specs.Runs.{IsOver, run_of}
 use Rattle.stack_machine.specs.Slices.{EndsAs}
 use Rattle.machine_world.specs.declared.course.Then.{Then}
 use Rattle.machine_world.specs.declared.course.Then.TheVariants.{GoesOn, Moves, Stopped}
 use Rattle.machine_world.proofs.Runnable.{runnable_at}
-use Rattle.loop_steps.proofs.Meant.{fun_meant, place_meant}
 use Rattle.loop_steps.proofs.Runs.{good, has_step, has_fun, found_in, next_in, counted_twice}
-use Rattle.loop_steps.proofs.OnInts.{LeadsTo, one_on, counted_on, alike_on, one_lower, effect_there, puts}
+use Rattle.loop_steps.proofs.OnInts.{can_put, good_there, LeadsTo, one_on, counted_on, alike_on, one_lower, effect_there, puts}
 use Rattle.stack_machine.proofs.Gone.{starts, then_on, none_more}
 use Rattle.stack_machine.proofs.Stops.{follows_as, stays_as, begun_one, stops}
 use Rattle.stack_machine.proofs.slices.run.Goals.{After-step_in-at, In-Some, In_ok-step}
@@ -34,6 +33,7 @@ now_over c store = state_of c.run.shred store c.run.acts
 here : (c : After-step_in-at)
     → step_at c.args.code.now (shown c.run.shred).top.fun (shown c.run.shred).top.place
     ≡ Some c.step_in-at.result.now
+unfolding shown
 here c =
     found_in c.args.code.now c.run.shred _ _ _ c.run.invariant.steps c.run.invariant.here
     c.step_in-at.ensures.at
@@ -66,8 +66,8 @@ followed c then is store stands =
 -- so it leads to where the shred stands then
 abbrev Leads : In_ok-step → Store → Store → Type 0
 Leads c store after =
-    LeadsTo c.args.code.now (shown c.run.shred) (state_of c.run.shred store c.run.acts)
-    (shown c.step.new.shred) (state_of c.step.new.shred after c.step.new.acts)
+    LeadsTo c.args.code.now c.run.shred (state_of c.run.shred store c.run.acts)
+    c.step.new.shred (state_of c.step.new.shred after c.step.new.acts)
 
 leads_on : (c : In_ok-step) → joined c.in_ok-step.field-0 c.step.new.stop ≡ GoesOn
     → (store : Store) → StandsFor c.run.world store → HasStore c.step.new.world (Leads c store)
@@ -107,9 +107,9 @@ module _ (c : In_ok-step)
     gone_then : (store : Store) → StandsFor c.args.world.now store
         → IsOver (run_of c.args.code.now c.args.shred.now
         (state_of c.args.shred.now store c.args.acts.now))
-        → HasStore c.step.new.world (λ s. HasGoneOn c.args.code.now 0 0 (shown c.args.shred.now)
+        → HasStore c.step.new.world (λ s. HasGoneOn c.args.code.now 0 0 c.args.shred.now
         (state_of c.args.shred.now store c.args.acts.now) c.run.begun (c.run.here + 1 - c.run.from)
-        (shown c.step.new.shred) (state_of c.step.new.shred s c.step.new.acts))
+        c.step.new.shred (state_of c.step.new.shred s c.step.new.acts))
     gone_then store stands over =
         let before = c.run.invariant.gone store stands over in
         let one = leads before.store before.stands in
@@ -124,9 +124,9 @@ module _ (c : In_ok-step)
         → (store : Store) → StandsFor c.args.world.now store
         → IsOver (run_of c.args.code.now c.args.shred.now
         (state_of c.args.shred.now store c.args.acts.now))
-        → HasStore c.step.new.world (λ s. HasGoneOn c.args.code.now 0 0 (shown c.args.shred.now)
+        → HasStore c.step.new.world (λ s. HasGoneOn c.args.code.now 0 0 c.args.shred.now
         (state_of c.args.shred.now store c.args.acts.now) ran (place - place)
-        (shown c.step.new.shred) (state_of c.step.new.shred s c.step.new.acts))
+        c.step.new.shred (state_of c.step.new.shred s c.step.new.acts))
     counted_then ran place is store stands over =
         let before = gone_then store stands over in
         record {
@@ -149,40 +149,42 @@ abbrev kept : ℤ → ℤ
 kept n = to_z w64 (of_z w64 n)
 
 int_on : (c : In-Some) (store : Store) → let state = state_of c.run.shred store c.run.acts in
-    LeadsTo c.args.code.now (shown c.run.shred) state
-    (holding (shown c.run.shred) (kept c.in-Some.n) (c.run.here + 1)) state
+    LeadsTo c.args.code.now c.run.shred state
+    (holding c.run.shred (kept c.in-Some.n) (c.run.here + 1)) state
+unfolding shown
 int_on c store =
     let code = c.args.code.now in
     let at = c.step_in-at.result.now in
-    let s = shown c.run.shred in
+    let s = c.run.shred in
     let n = kept c.in-Some.n in
     let state = state_of c.run.shred store c.run.acts in
-    let puts_it : PutsInt at.instr s.top.locals n =
-    subst (PutsInt at.instr s.top.locals) (sym (to_z-of_z w64 c.in-Some.n (search rules))) c.in-Some.ensures.puts in
+    let puts_it : PutsInt at.instr (locals_of s) n =
+    subst (PutsInt at.instr (locals_of s)) (sym (to_z-of_z w64 c.in-Some.n (search rules))) c.in-Some.ensures.puts in
     record {
       number = refl;
       next = effect_there code s state at
           (found_in code c.run.shred _ _ _ c.run.invariant.steps c.run.invariant.here c.step_in-at.ensures.at)
           ∙ puts code at.instr at.place s state n puts_it
-          ∙ ap (λ p. Next (frames_of (holding s n (p + 1))) state) (sym c.run.invariant.here);
+          ∙ ap (λ p. Next (frames_of (shown (holding s n (p + 1)))) state) (sym c.run.invariant.here);
     }
 
 -- and the slice from there on is over too
 int_over : (c : In-Some) (store : Store)
     → IsOver (run_of c.args.code.now c.run.shred (state_of c.run.shred store c.run.acts))
-    → IsOver (run_from c.args.code.now
-    (holding (shown c.run.shred) (kept c.in-Some.n) (c.run.here + 1))
+    → IsOver (run_of c.args.code.now
+    (holding c.run.shred (kept c.in-Some.n) (c.run.here + 1))
     (state_of c.run.shred store c.run.acts))
 int_over c store over =
     subst IsOver (sym (alike_on c.args.code.now _ _ _ _ over (int_on c store))) over
 
 pub run-init : goal.run-init
+unfolding shown
 run-init c = record {
   steps = ap (λ parts. steps_of (slice_get parts.funs (shown c.args.shred.now).top.fun))
       (sym c.parts-parts.ensures.parts)
-      ∙ ap (λ f. steps_of (slice_get c.parts-parts.result.now.funs f)) (sym (fun_meant _ _ c.fun.ensures))
+      ∙ ap (λ f. steps_of (slice_get c.parts-parts.result.now.funs f)) (sym c.fun.ensures)
       ∙ c.steps_at-steps.ensures;
-  here = place_meant _ _ c.place-here.ensures;
+  here = c.place-here.ensures;
   from = omega arith;
   same = record { number = refl; parent = refl; last = refl };
   ran = refl;
@@ -190,11 +192,20 @@ run-init c = record {
   gone = λ store stands over. record {
     store = store;
     stands = stands;
-    so = starts c.args.code.now (shown c.args.shred.now) _ c.place-here.result over;
+    so = starts c.args.code.now c.args.shred.now _ c.place-here.result over;
   };
 }
 
+pub int_put-requires : goal.int_put-requires
+int_put-requires c =
+    let there = (goal.at.int_put-requires c).After-step_in-at in
+    let at = c.step_in-at.result.now in
+    let over = c.run.invariant.over in
+    can_put c.args.code.now at.instr at.place c.run.shred _
+    (good_there c.args.code.now c.run.shred _ at (here there) over.so)
+
 pub go_on_with_int-requires-clause-over : goal.go_on_with_int-requires-clause-over
+unfolding shown
 go_on_with_int-requires-clause-over c =
     let over = c.run.invariant.over in (
       state_of c.run.shred over.store c.run.acts,
@@ -202,14 +213,16 @@ go_on_with_int-requires-clause-over c =
     )
 
 pub steps_at-steps-requires-then-branch : goal.steps_at-steps-requires-then-branch
+unfolding shown
 steps_at-steps-requires-then-branch c =
     let over = c.run.invariant.over in
-    rw (c.parts-parts.ensures.parts, fun_meant c.go_on_with_int.new.shred _ c.fun-then-branch.ensures)
+    rw (c.parts-parts.ensures.parts, c.fun-then-branch.ensures)
     (has_fun c.args.code.now c.go_on_with_int.new.shred _
     (c.in_ok-go_on_with_int.ensures.gone (state_of c.run.shred over.store c.run.acts)
     (int_over (goal.at.steps_at-steps-requires-then-branch c).In-Some over.store over.so)).over)
 
 pub run-smaller-then-branch : goal.run-smaller-then-branch
+unfolding shown
 run-smaller-then-branch c =
     let over = c.run.invariant.over in
     let int = (goal.at.run-smaller-then-branch c).In-Some in
@@ -223,6 +236,7 @@ run-smaller-then-branch c =
     )
 
 pub run-preserved-then-branch : goal.run-preserved-then-branch
+unfolding shown
 run-preserved-then-branch c =
     let int = (goal.at.run-preserved-then-branch c).In-Some in
     let then = c.in_ok-go_on_with_int.ensures in
@@ -231,9 +245,9 @@ run-preserved-then-branch c =
     let parts = c.parts-parts.result.now in
     record {
       steps = ap (λ parts. steps_of (slice_get parts.funs fun)) (sym c.parts-parts.ensures.parts)
-          ∙ ap (λ f. steps_of (slice_get parts.funs f)) (sym (fun_meant _ _ c.fun-then-branch.ensures))
+          ∙ ap (λ f. steps_of (slice_get parts.funs f)) (sym c.fun-then-branch.ensures)
           ∙ c.steps_at-steps-then-branch.ensures;
-      here = place_meant c.go_on_with_int.new.shred _ then.here;
+      here = then.here;
       from = then.from;
       same = record {
         number = then.same.number ∙ before.same.number;
@@ -261,6 +275,7 @@ run-preserved-then-branch c =
     }
 
 pub run-smaller-else-branch : goal.run-smaller-else-branch
+unfolding shown
 run-smaller-else-branch c =
     let over = c.run.invariant.over in
     let int = (goal.at.run-smaller-else-branch c).In-Some in
@@ -274,6 +289,7 @@ run-smaller-else-branch c =
     )
 
 pub run-preserved-else-branch : goal.run-preserved-else-branch
+unfolding shown
 run-preserved-else-branch c =
     let int = (goal.at.run-preserved-else-branch c).In-Some in
     let then = c.in_ok-go_on_with_int.ensures in
@@ -283,7 +299,7 @@ run-preserved-else-branch c =
     c.if-branch.false then.fun in
     record {
       steps = ap (λ f. steps_of (slice_get c.args.code.now.funs f)) fun ∙ before.steps;
-      here = place_meant c.go_on_with_int.new.shred _ then.here;
+      here = then.here;
       from = then.from;
       same = record {
         number = then.same.number ∙ before.same.number;
@@ -311,11 +327,13 @@ run-preserved-else-branch c =
     }
 
 pub steps_at-steps-requires : goal.steps_at-steps-requires
+unfolding shown
 steps_at-steps-requires c =
-    rw (c.parts-parts.ensures.parts, fun_meant c.args.shred.now _ c.fun.ensures)
+    rw (c.parts-parts.ensures.parts, c.fun.ensures)
     (has_fun c.args.code.now c.args.shred.now _ c.requires.over.so)
 
 pub step_in-at-requires : goal.step_in-at-requires
+unfolding shown
 step_in-at-requires c =
     let code = c.args.code.now in
     rw (← c.run.invariant.steps, c.run.invariant.here)
@@ -346,18 +364,21 @@ unfolding shown
 step-requires-clause-here c = c.run.invariant.here
 
 pub steps_at-steps-requires-in-Elsewhere : goal.steps_at-steps-requires-in-Elsewhere
+unfolding shown
 steps_at-steps-requires-in-Elsewhere c =
     let there = (goal.at.steps_at-steps-requires-in-Elsewhere c).In_ok-step in
-    rw (c.parts-parts.ensures.parts, fun_meant c.step.new.shred _ c.fun-in-Elsewhere.ensures)
+    rw (c.parts-parts.ensures.parts, c.fun-in-Elsewhere.ensures)
     (has_fun c.args.code.now c.step.new.shred _ (over_then there (leads_off there
     (ap (λ course. joined course c.step.new.stop) c.in-Elsewhere.is))).so)
 
 pub run-smaller-in-Ahead : goal.run-smaller-in-Ahead
+unfolding shown
 run-smaller-in-Ahead c =
     let there = (goal.at.run-smaller-in-Ahead c).In_ok-step in
     lower_then there (leads_on there (ap (λ course. joined course c.step.new.stop) c.in-Ahead.is))
 
 pub run-preserved-in-Ahead : goal.run-preserved-in-Ahead
+unfolding shown
 run-preserved-in-Ahead c =
     let there = (goal.at.run-preserved-in-Ahead c).In_ok-step in
     let leads = leads_on there (ap (λ course. joined course c.step.new.stop) c.in-Ahead.is) in
@@ -382,11 +403,13 @@ run-preserved-in-Ahead c =
     }
 
 pub run-smaller-in-Apart : goal.run-smaller-in-Apart
+unfolding shown
 run-smaller-in-Apart c =
     let there = (goal.at.run-smaller-in-Apart c).In_ok-step in
     lower_then there (leads_on there (ap (λ course. joined course c.step.new.stop) c.in-Apart.is))
 
 pub run-preserved-in-Apart : goal.run-preserved-in-Apart
+unfolding shown
 run-preserved-in-Apart c =
     let there = (goal.at.run-preserved-in-Apart c).In_ok-step in
     let leads = leads_on there (ap (λ course. joined course c.step.new.stop) c.in-Apart.is) in
@@ -396,7 +419,7 @@ run-preserved-in-Apart c =
     c.in_ok-step.ensures.carries.stays in
     record {
       steps = ap (λ f. steps_of (slice_get c.args.code.now.funs f)) stays ∙ before.steps;
-      here = place_meant _ _ c.place-here-in-Apart.ensures;
+      here = c.place-here-in-Apart.ensures;
       from = omega arith;
       same = record {
         number = same.number ∙ before.same.number;
@@ -409,11 +432,13 @@ run-preserved-in-Apart c =
     }
 
 pub run-smaller : goal.run-smaller
+unfolding shown
 run-smaller c =
     let there = (goal.at.run-smaller c).In_ok-step in
     lower_then there (leads_off there (ap (λ course. joined course c.step.new.stop) c.in-Elsewhere.is))
 
 pub run-preserved : goal.run-preserved
+unfolding shown
 run-preserved c =
     let there = (goal.at.run-preserved c).In_ok-step in
     let leads = leads_off there (ap (λ course. joined course c.step.new.stop) c.in-Elsewhere.is) in
@@ -423,9 +448,9 @@ run-preserved c =
     let parts = c.parts-parts.result.now in
     record {
       steps = ap (λ parts. steps_of (slice_get parts.funs fun)) (sym c.parts-parts.ensures.parts)
-          ∙ ap (λ f. steps_of (slice_get parts.funs f)) (sym (fun_meant _ _ c.fun-in-Elsewhere.ensures))
+          ∙ ap (λ f. steps_of (slice_get parts.funs f)) (sym c.fun-in-Elsewhere.ensures)
           ∙ c.steps_at-steps-in-Elsewhere.ensures;
-      here = place_meant _ _ c.place-here-in-Elsewhere.ensures;
+      here = c.place-here-in-Elsewhere.ensures;
       from = omega arith;
       same = record {
         number = same.number ∙ before.same.number;
@@ -439,6 +464,7 @@ run-preserved c =
     }
 
 pub returns-in-Over-clause-ends : goal.returns-in-Over-clause-ends
+unfolding shown
 returns-in-Over-clause-ends c = λ store stands over.
     let code = c.args.code.now in
     let stop = c.step.new.stop in
@@ -459,6 +485,7 @@ returns-in-Over-clause-ends c = λ store stands over.
     }
 
 pub returns-in-Over-clause-ran : goal.returns-in-Over-clause-ran
+unfolding shown
 returns-in-Over-clause-ran c = λ store stands over.
     let code = c.args.code.now in
     let stop = c.step.new.stop in

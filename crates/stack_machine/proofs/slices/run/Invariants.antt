@@ -13,17 +13,17 @@ use Rattle.stack_machine.proofs.slices.run.Given as goal
 abbrev pub invariant-run : goal.invariant-run
 invariant-run l =
     record {
-      steps : steps_of (slice_get l.code.funs (shown l.shred).top.fun) ≡ l.steps;
-      here : l.here ≡ (shown l.shred).top.place;
+      steps : steps_of (slice_get l.code.funs l.shred.top.fun) ≡ l.steps;
+      here : l.here ≡ l.shred.top.place;
       from : l.from ≤ l.here;
       same : IsSame l.initial.shred l.shred;
       ran : l.world.ran ≡ l.initial.world.ran;
       over : HasStore l.world (λ s. IsOver (run_of l.code l.shred (state_of l.shred s l.acts)));
       gone : (store : Store) → StandsFor l.initial.world store
           → IsOver (run_of l.code l.initial.shred (state_of l.initial.shred store l.initial.acts))
-          → HasStore l.world (λ s. HasGoneOn l.code 0 0 (shown l.initial.shred)
+          → HasStore l.world (λ s. HasGoneOn l.code 0 0 l.initial.shred
           (state_of l.initial.shred store l.initial.acts) l.begun (l.here - l.from)
-          (shown l.shred) (state_of l.shred s l.acts));
+          l.shred (state_of l.shred s l.acts));
     }
 
 abbrev pub decreases-run : goal.decreases-run
