@@ -71,13 +71,14 @@ BreaksBy code step trap old world =
     (store : Store) → StandsFor old.world store → HasStore world (λ after.
     effect_over code step old store ≡ Breaks trap step.place (state_over after old))
 
--- and so it stopped: nothing is said of the frames that it leaves
+-- and so it stopped: the frames beneath are as they were
 pub carries_trap : (code : CodeParts) (step : Step) (trap : Trap) (old new : Scene)
-    → IsSame old.shred new.shred → new.shred.turns ≡ old.shred.turns → new.acts ≡ old.acts
+    → IsSame old.shred new.shred → new.shred.turns ≡ old.shred.turns
+    → new.shred.below ≡ old.shred.below → new.acts ≡ old.acts
     → new.world.ran ≡ old.world.ran → BreaksBy code step trap old new.world
     → Carries code step (Stopped (Trapped trap step.place)) old new
 unfolding shown
-carries_trap code step trap old new same turns acts ran breaks = record {
+carries_trap code step trap old new same turns below acts ran breaks = record {
   follows = λ store stands.
       let one = breaks store stands in
       record {
@@ -89,7 +90,7 @@ carries_trap code step trap old new same turns acts ran breaks = record {
             ∙ ap (λ acts. Breaks trap step.place (state_of new.shred one.store acts)) (sym acts);
       };
   same = same;
-  stays = tt;
+  stays = below;
   ran = ran;
 }
 

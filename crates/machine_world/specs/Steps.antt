@@ -95,18 +95,18 @@ pub record IsBehind (old new : Standing) : Type 0 where
   pub fun : (shown new).top.fun ≡ (shown old).top.fun
   pub place : (shown new).top.place ≡ (shown old).top.place + 1
 
--- a shred that waits goes on behind its wait
-abbrev pub WaitsBehind : Stop → (old new : Standing) → Type 0
-WaitsBehind (StopsAt time) old new = IsBehind old new
-WaitsBehind (StopsOn event) old new = IsBehind old new
-WaitsBehind Ended old new = Unit {0}
-WaitsBehind (Trapped trap place) old new = Unit {0}
+-- a shred that waits goes on behind its wait, and one that trapped has the frames beneath as they were
+abbrev pub StopsBehind : Stop → (old new : Standing) → Type 0
+StopsBehind (StopsAt time) old new = IsBehind old new
+StopsBehind (StopsOn event) old new = IsBehind old new
+StopsBehind Ended old new = Unit {0}
+StopsBehind (Trapped trap place) old new = new.below ≡ old.below
 
 -- the function that runs stays the same one, where the answer says so
 abbrev pub Stays : Then → (old new : Standing) → Type 0
 Stays GoesOn old new = (shown new).top.fun ≡ (shown old).top.fun
 Stays Moves old new = Unit {0}
-Stays (Stopped stop) old new = WaitsBehind stop old new
+Stays (Stopped stop) old new = StopsBehind stop old new
 
 -- the shred is the same one, and its slice too
 pub record IsSame (old new : Standing) : Type 0 where

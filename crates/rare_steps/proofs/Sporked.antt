@@ -84,7 +84,7 @@ no_turn code step g old new world acts found none is =
       number = ap (λ (s : Standing). s.number) is;
       parent = ap (λ (s : Standing). s.parent) is;
       last = ap (λ (s : Standing). s.last) is;
-    }) (ap (λ (s : Standing). s.turns) is) refl refl
+    }) (ap (λ (s : Standing). s.turns) is) (ap (λ (s : Standing). s.below) is) refl refl
     (breaks_here code (spork_at step g) Turns now world refl (λ store stands.
     ap (λ o. with_fun o (λ fn. tried (taken fn.params [] s.top.operands) step.place
     (at store s.turns) (λ t. sporking step.place s (at store s.turns) fn g t.arguments t.beneath)))
@@ -198,6 +198,6 @@ module _ (code : CodeParts) (step : Step) (g : ℕ) (fn : Fun) (spent : Standing
               ∙ ap (λ trap. Breaks trap step.place (later store)) (sym is);
         };
     same = record { number = refl; parent = refl; last = refl };
-    stays = tt;
+    stays = refl;
     ran = ap (λ (w : Parts). w.ran) is_after;
   }

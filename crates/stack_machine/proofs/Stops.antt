@@ -11,7 +11,7 @@ use Rattle.ck_code.specs.Machine.{Waits, source_of, stopped_at, exec, one_more, 
 use Rattle.shred_state.specs.Frames.{Standing}
 use Rattle.machine_world.specs.Shown.{shown, frames_of}
 use Rattle.machine_world.specs.declared.acts.Act.{Act}
-use Rattle.machine_world.specs.Steps.{IsBehind, WaitsBehind, Matches, Stays, state_of}
+use Rattle.machine_world.specs.Steps.{IsBehind, StopsBehind, Matches, Stays, state_of}
 use Rattle.loop_steps.specs.Runs.{IsOver}
 use Rattle.stack_machine.specs.Slices.{EndsAs}
 use Rattle.machine_world.specs.declared.course.Stop.{Stop}
@@ -44,7 +44,7 @@ module _ (code : CodeParts) (n : ℕ) where
         ∙ ap (λ place. Waits q place (frames_of (shown shred1)) left)
         (waits_there old shred1 step at behind)
 
-    stop_ends : (stop : Stop) (b : ℕ) (e : Effect) → WaitsBehind stop old shred1
+    stop_ends : (stop : Stop) (b : ℕ) (e : Effect) → StopsBehind stop old shred1
         → Matches (Stopped stop) e step.place shred1 store1 acts
         → EndsAs stop (go_on e (exec code n b)) code shred1 left
     stop_ends (StopsAt time) b e behind is = waits_as (At time) b e behind is
@@ -56,7 +56,7 @@ module _ (code : CodeParts) (n : ℕ) where
     stop_ends (Trapped trap place) b e behind is = ap (λ e. go_on e (exec code n b)) is
 
     pub stops : (stop : Stop) (b : ℕ) (fs : List Frame) (s : State)
-        → IsOver (exec code n b fs s) → WaitsBehind stop old shred1
+        → IsOver (exec code n b fs s) → StopsBehind stop old shred1
         → Matches (Stopped stop) (next_effect code n fs s) step.place shred1 store1 acts
         → EndsAs stop (exec code n b fs s) code shred1 left
     stops stop zero fs s over behind is = absurd over

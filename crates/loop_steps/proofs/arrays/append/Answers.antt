@@ -47,7 +47,7 @@ returns-in-Err-Trap c = record {
           so = grind (arith, common_steps, top);
         };
     same = grind (arith, common_steps);
-    stays = tt;
+    stays = grind (arith, common_steps);
     ran = c.in-Err-Trap.ensures.ran;
   };
 }

@@ -28,7 +28,7 @@ returns c = record {
         let top = split_top c.pop-index.new.self.top.operands _ c.peek.ensures in
         record { store = store; stands = stands; so = grind (arith, common_steps, top) };
     same = grind (arith, common_steps);
-    stays = tt;
+    stays = grind (arith, common_steps);
     ran = grind arith;
   };
 }

@@ -48,7 +48,7 @@ returns c = record {
           so = grind (arith, common_steps, top);
         };
     same = grind (arith, common_steps);
-    stays = tt;
+    stays = grind (arith, common_steps);
     ran = c.in-Err.ensures.ran;
   };
 }

@@ -91,7 +91,7 @@ returns-in-Err-CallDepth c =
           parent = ap (λ (s : Standing). s.parent) refused.same ∙ sym (ap (λ (s : Standing). s.parent) spent);
           last = ap (λ (s : Standing). s.last) refused.same ∙ sym (ap (λ (s : Standing). s.last) spent);
         };
-        stays = tt;
+        stays = ap (λ (s : Standing). s.below) refused.same ∙ sym (ap (λ (s : Standing). s.below) spent);
         ran = refl;
       };
     }

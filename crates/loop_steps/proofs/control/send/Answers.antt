@@ -115,7 +115,7 @@ returns-in-Err c =
     let can = c.requires.can in
     record {
       carries = carries_trap code at c.in-Err.trap now now
-          (record { number = refl; parent = refl; last = refl }) refl refl refl
+          (record { number = refl; parent = refl; last = refl }) refl refl refl refl
           (breaks_here code at c.in-Err.trap now now.world refl (λ store stands.
           let s = state_over store now in
           let good = each_so _ (λ store. IsGood (effect_in code instr at.place (shown now.shred) (state_over store now)))

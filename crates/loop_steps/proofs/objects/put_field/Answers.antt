@@ -43,7 +43,7 @@ returns-in-Err c = record {
         let top = split_top c.args.shred.now.top.operands _ c.peek.ensures in
         record { store = store; stands = stands; so = grind (arith, common_steps, top) };
     same = record { number = refl; parent = refl; last = refl };
-    stays = tt;
+    stays = refl;
     ran = refl;
   };
 }

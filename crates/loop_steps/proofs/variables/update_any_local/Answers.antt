@@ -46,7 +46,7 @@ returns-in-Err-Trap c = record {
         let was = local_meant c.args.shred.now.top.locals c.args.i _ c.local.ensures in
         record { store = store; stands = stands; so = grind (arith, common_steps, top, was) };
     same = record { number = refl; parent = refl; last = refl };
-    stays = tt;
+    stays = refl;
     ran = refl;
   };
 }

@@ -26,7 +26,7 @@ returns-in-Err-Trap c = record {
         let top = split_top c.args.shred.now.top.operands _ c.peek-operand.ensures in
         record { store = store; stands = stands; so = grind (arith, common_steps, top) };
     same = record { number = refl; parent = refl; last = refl };
-    stays = tt;
+    stays = refl;
     ran = refl;
   };
 }

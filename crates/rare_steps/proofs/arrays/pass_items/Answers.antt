@@ -28,7 +28,7 @@ returns-in-Err c = record {
         let tops = split_two c.args.shred.now.top.operands _ _ c.peek.ensures c.operand.ensures in
         record { store = store; stands = stands; so = grind (arith, common_steps, tops) };
     same = record { number = refl; parent = refl; last = refl };
-    stays = tt;
+    stays = refl;
     ran = refl;
   };
 }

@@ -59,7 +59,7 @@ returns-in-Err c = record {
           so = grind (arith, common_steps, key_where_called);
         };
     same = grind (arith, common_steps);
-    stays = tt;
+    stays = grind (arith, common_steps);
     ran = c.in-Err.ensures.ran;
   };
 }

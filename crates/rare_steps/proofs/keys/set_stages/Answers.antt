@@ -56,7 +56,7 @@ returns-in-Err c = record {
           so = search (rules, stages_called);
         };
     same = grind (arith, common_steps);
-    stays = tt;
+    stays = grind (arith, common_steps);
     ran = c.in-Err.ensures.ran;
   };
 }

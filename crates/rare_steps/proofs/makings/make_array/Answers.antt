@@ -69,7 +69,7 @@ returns-in-Err-Trap c =
             number = ap (λ (s : Standing). s.number) left;
             parent = ap (λ (s : Standing). s.parent) left;
             last = ap (λ (s : Standing). s.last) left;
-          }) (ap (λ (s : Standing). s.turns) left) refl c.in-Err-Trap.ensures.ran
+          }) (ap (λ (s : Standing). s.turns) left) (ap (λ (s : Standing). s.below) left) refl c.in-Err-Trap.ensures.ran
           (breaks_here code at trap now c.make_array.new.self c.in-Err-Trap.ensures.same
           (λ store stands.
           array_refused code at now c.args.elem c.args.two c.args.n store c.in_ok-items.items

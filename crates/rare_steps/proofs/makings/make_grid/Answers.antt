@@ -58,7 +58,7 @@ returns-in-Err-Trap c = record {
         c.in-Err-Trap.field-0-is c.in-Err-Trap.ensures.end store stands in
         record { store = left.store; stands = left.stands; so = grind (arith, common_steps) };
     same = grind (arith, common_steps);
-    stays = tt;
+    stays = grind (arith, common_steps);
     ran = c.in-Err-Trap.ensures.ran;
   };
 }
