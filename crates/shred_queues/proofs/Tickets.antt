@@ -1,5 +1,5 @@
 -- Queues by places with tickets: what they stand for.
-use Rattle.std.proofs.Common.{◌≡◌, ℕ, ◌+◌, ◌<◌, Bool, true, false, cond, not, nat_eq}
+use Rattle.std.proofs.Common.{filter, ◌≡◌, ℕ, ◌+◌, ◌<◌, Bool, true, false, cond, not, nat_eq}
 use Rattle.std.proofs.Common.{List, [], ◌∷◌, ◌++◌, length, find, Option, Some, None, slice_get, refl, sym, ap, ◌∙◌, arith}
 use Rattle.std.specs.BTreeMap.{insert_entry, is_at}
 use Rattle.std.specs.Cmp.{IsTotalOrder, ranks, alike_right}
@@ -37,6 +37,15 @@ then_less : (r s : Ordering) → ordering_then r s ≡ Less → is_gt r ≡ fals
 then_less Less s is = refl
 then_less Equal s is = refl
 then_less Greater s is = absurd (cc is)
+
+-- what all of a longer list are
+last_of : {A : Type 0} (T : A → Type 0) (es rest : List A) (e : A) → AllByRecursion T (es ++ e ∷ rest) → T e
+last_of T [] rest e all = all.0
+last_of T (f ∷ es) rest e all = last_of T es rest e all.1
+
+front_of : {A : Type 0} (T : A → Type 0) (es rest : List A) → AllByRecursion T (es ++ rest) → AllByRecursion T es
+front_of T [] rest all = tt
+front_of T (e ∷ es) rest all = (all.0, front_of T es rest all.1)
 
 module _ {K : Type 0} where
   -- what places stand for
@@ -127,19 +136,24 @@ module _ {K : Type 0} where
         by Equal = ap is_eq (greater e.0.ticket next all.0)
         by Greater = refl
 
-    pub put_next : (next n : ℕ) (key : K) (es : List (Place K × ℕ)) → AreBefore next es
-        → keyed (insert_entry by_place es (record { key = key; ticket = next }) n) ≡ arrived cmp key n (keyed es)
-    put_next next n key [] all = refl
-    put_next next n key (e ∷ es) all = by (cmp key e.0.key) (put_next next n key es all.1)
+    -- before the first of a higher key
+    abbrev inserted : K → ℕ → List (K × ℕ) → List (K × ℕ)
+    inserted key n [] = (key, n) ∷ []
+    inserted key n (e ∷ rest) = cond (is_lt (cmp key e.0)) ((key, n) ∷ e ∷ rest) (e ∷ inserted key n rest)
+
+    put_inserted : (next n : ℕ) (key : K) (es : List (Place K × ℕ)) → AreBefore next es
+        → keyed (insert_entry by_place es (record { key = key; ticket = next }) n) ≡ inserted key n (keyed es)
+    put_inserted next n key [] all = refl
+    put_inserted next n key (e ∷ es) all = by (cmp key e.0.key) (put_inserted next n key es all.1)
       where
         here : Place K
         here = record { key = key; ticket = next }
 
         by : (r : Ordering)
-            → keyed (insert_entry by_place es here n) ≡ arrived cmp key n (keyed es)
+            → keyed (insert_entry by_place es here n) ≡ inserted key n (keyed es)
             → keyed (match_ordering (ordering_then r (nat_cmp next e.0.ticket))
             ((here, n) ∷ e ∷ es) ((e.0, n) ∷ es) (e ∷ insert_entry by_place es here n))
-            ≡ cond (is_lt r) ((key, n) ∷ (e.0.key, e.1) ∷ keyed es) ((e.0.key, e.1) ∷ arrived cmp key n (keyed es))
+            ≡ cond (is_lt r) ((key, n) ∷ (e.0.key, e.1) ∷ keyed es) ((e.0.key, e.1) ∷ inserted key n (keyed es))
         by Less ih = refl
         by Equal ih =
             ap (λ r. keyed (match_ordering r
@@ -147,6 +161,53 @@ module _ {K : Type 0} where
             (greater e.0.ticket next all.0)
             ∙ ap (λ fs. (e.0.key, e.1) ∷ fs) ih
         by Greater ih = ap (λ fs. (e.0.key, e.1) ∷ fs) ih
+
+    -- that is behind all of lower keys and of the same, before all others
+    module _ (o : IsTotalOrder cmp) where
+      none_lower : (key : K) (e : K × ℕ) (es : List (K × ℕ)) → cmp key e.0 ≡ Less
+          → AllByRecursion (λ f. is_gt (cmp e.0 f.0) ≡ false) es
+          → (filter (λ f. not (is_lt (cmp key f.0))) es ≡ []) × (filter (λ f. is_lt (cmp key f.0)) es ≡ es)
+      none_lower key e [] less all = (refl, refl)
+      none_lower key e (f ∷ es) less all =
+          let higher : is_lt (cmp key f.0) ≡ true =
+          ap is_lt (by (cmp e.0 f.0) refl all.0) in
+          let rest = none_lower key e es less all.1 in (
+            ap (λ b. cond (not b) (f ∷ filter (λ f. not (is_lt (cmp key f.0))) es)
+                (filter (λ f. not (is_lt (cmp key f.0))) es)) higher ∙ rest.0,
+            ap (λ b. cond b (f ∷ filter (λ f. is_lt (cmp key f.0)) es) (filter (λ f. is_lt (cmp key f.0)) es)) higher
+                ∙ ap (λ es. f ∷ es) rest.1,
+          )
+        where
+          by : (r : Ordering) → cmp e.0 f.0 ≡ r → is_gt r ≡ false → cmp key f.0 ≡ Less
+          by Less is after = o.trans key e.0 f.0 less is
+          by Equal is after = sym (alike_right o e.0 f.0 key is) ∙ less
+          by Greater is after = absurd (cc after)
+
+      inserted_is : (key : K) (n : ℕ) (es : List (K × ℕ)) → IsRising cmp es
+          → inserted key n es ≡ arrived cmp key n es
+      inserted_is key n [] rises = refl
+      inserted_is key n (e ∷ es) rises =
+          by (cmp key e.0) refl (inserted_is key n es rises.1)
+        where
+          by : (r : Ordering) → cmp key e.0 ≡ r → inserted key n es ≡ arrived cmp key n es
+              → cond (is_lt r) ((key, n) ∷ e ∷ es) (e ∷ inserted key n es)
+              ≡ cond (not (is_lt r)) (e ∷ filter (λ f. not (is_lt (cmp key f.0))) es)
+              (filter (λ f. not (is_lt (cmp key f.0))) es)
+              ++ (key, n) ∷ cond (is_lt r) (e ∷ filter (λ f. is_lt (cmp key f.0)) es)
+              (filter (λ f. is_lt (cmp key f.0)) es)
+          by Less is ih =
+              let none = none_lower key e es is rises.0 in
+              ap (λ fs. (key, n) ∷ e ∷ fs) (sym none.1)
+              ∙ ap (λ front. front ++ (key, n) ∷ e ∷ filter (λ f. is_lt (cmp key f.0)) es) (sym none.0)
+          by Equal is ih = ap (λ fs. e ∷ fs) ih
+          by Greater is ih = ap (λ fs. e ∷ fs) ih
+
+      pub put_next : (next n : ℕ) (key : K) (es : List (Place K × ℕ)) → AreBefore next es
+          → IsStrictlySortedBy by_place (keys_of es)
+          → keyed (insert_entry by_place es (record { key = key; ticket = next }) n)
+          ≡ arrived cmp key n (keyed es)
+      put_next next n key es all sorted =
+          put_inserted next n key es all ∙ inserted_is key n (keyed es) (rising es sorted)
 
     pub before_next : (next n : ℕ) (key : K) (es : List (Place K × ℕ)) → AreBefore next es
         → AreBefore (next + 1) (insert_entry by_place es (record { key = key; ticket = next }) n)
@@ -165,23 +226,30 @@ module _ {K : Type 0} where
         by Greater ih = (omega (arith, all.0), ih)
 
     -- what has the greatest key so far comes behind all
-    pub arrived_last : IsTotalOrder cmp → (es rest : List (K × ℕ)) (key : K) (n : ℕ)
-        → IsRising cmp (es ++ (key, n) ∷ rest) → arrived cmp key n es ≡ es ++ (key, n) ∷ []
-    arrived_last o [] rest key n rises = refl
-    arrived_last o (e ∷ es) rest key n rises =
-        ap (λ b. cond b ((key, n) ∷ e ∷ es) (e ∷ arrived cmp key n es))
-        (ap is_lt (o.antisymm key e.0) ∙ by (cmp e.0 key) (last es rises.0))
-        ∙ ap (λ fs. e ∷ fs) (arrived_last o es rest key n rises.1)
+    inserted_last : IsTotalOrder cmp → (es rest : List (K × ℕ)) (key : K) (n : ℕ)
+        → IsRising cmp (es ++ (key, n) ∷ rest) → inserted key n es ≡ es ++ (key, n) ∷ []
+    inserted_last o [] rest key n rises = refl
+    inserted_last o (e ∷ es) rest key n rises =
+        ap (λ b. cond b ((key, n) ∷ e ∷ es) (e ∷ inserted key n es))
+        (ap is_lt (o.antisymm key e.0) ∙ by (cmp e.0 key) (last_of (λ f. is_gt (cmp e.0 f.0) ≡ false) es rest
+        (key, n) rises.0))
+        ∙ ap (λ fs. e ∷ fs) (inserted_last o es rest key n rises.1)
       where
-        last : (es : List (K × ℕ)) → AllByRecursion (λ f. is_gt (cmp e.0 f.0) ≡ false) (es ++ (key, n) ∷ rest)
-            → is_gt (cmp e.0 key) ≡ false
-        last [] all = all.0
-        last (f ∷ es) all = last es all.1
-
         by : (r : Ordering) → is_gt r ≡ false → is_lt (ordering_reverse r) ≡ false
         by Less is = refl
         by Equal is = refl
         by Greater is = absurd (cc is)
+
+    rising_front : (es rest : List (K × ℕ)) → IsRising cmp (es ++ rest) → IsRising cmp es
+    rising_front [] rest rises = tt
+    rising_front (e ∷ es) rest rises =
+        (front_of (λ f. is_gt (cmp e.0 f.0) ≡ false) es rest rises.0, rising_front es rest rises.1)
+
+    pub arrived_last : IsTotalOrder cmp → (es rest : List (K × ℕ)) (key : K) (n : ℕ)
+        → IsRising cmp (es ++ (key, n) ∷ rest) → arrived cmp key n es ≡ es ++ (key, n) ∷ []
+    arrived_last o es rest key n rises =
+        sym (inserted_is o key n es (rising_front es ((key, n) ∷ rest) rises))
+        ∙ inserted_last o es rest key n rises
 
     -- the first in the queue of a key
     abbrev pub in_queue : K → Option (Place K × ℕ) → Option (K × ℕ)

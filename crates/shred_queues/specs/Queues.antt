@@ -1,5 +1,5 @@
 -- Shreds in queues: by rising key, and among equal keys in order of arrival.
-use Rattle.std.specs.Prelude.{◌≡◌, ℕ, ◌<◌, false, if◌then◌else◌, List, [], ◌∷◌, map}
+use Rattle.std.specs.Prelude.{◌≡◌, ℕ, ◌<◌, false, not, List, [], ◌∷◌, ◌++◌, map, filter}
 use Rattle.std.specs.List.{AllByRecursion}
 use Rattle.std.specs.Ordering.{is_lt, is_gt}
 use Rattle.std.specs.declared.cmp.Ordering.{Ordering}
@@ -15,11 +15,11 @@ module _ {K : Type 0} where
   AreBefore next entries = AllByRecursion (λ e. e.0.ticket < next) entries
 
   module _ (cmp : K → K → Ordering) where
-    -- a shred comes into the queue of a key, behind all that stand in it
+    -- a shred comes into the queue of a key: behind all of this key and of lower ones
     abbrev pub arrived : K → ℕ → List (K × ℕ) → List (K × ℕ)
-    arrived key shred [] = (key, shred) ∷ []
-    arrived key shred (e ∷ rest) =
-        if is_lt (cmp key e.0) then (key, shred) ∷ e ∷ rest else e ∷ arrived key shred rest
+    arrived key shred entries =
+        filter (λ e. not (is_lt (cmp key e.0))) entries
+        ++ (key, shred) ∷ filter (λ e. is_lt (cmp key e.0)) entries
 
     -- no key comes behind a later one
     abbrev pub IsRising : List (K × ℕ) → Type 0

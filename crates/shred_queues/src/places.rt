@@ -57,6 +57,7 @@ impl<P: Ord + Copy + Drop> Places<P> {
         requires nowhere { times shred self.old ≡ 0 }
         ensures put { OnOk result (self.new ≡ insert_entry P.cmp self.old place shred) }
         ensures same { OnErr result (self.new ≡ self.old) }
+        ensures orderly { AreOrderly P.cmp self.old }
     {
         match self.first() {
             Some((least, _)) if least < place => self.later.put(place, shred),

@@ -12,7 +12,8 @@ pub returns-clause-arrived : goal.returns-clause-arrived
 returns-clause-arrived g c =
     on_ok c.put.result c.put.ensures.put
     (λ put. ap keyed put
-    ∙ put_next g.K.Ord.cmp c.args.ticket c.args.shred c.args.key c.args.places.now c.requires.before)
+    ∙ put_next g.K.Ord.cmp g.met.K.Ord.total c.args.ticket c.args.shred c.args.key c.args.places.now
+    c.requires.before c.put.ensures.orderly.ordered)
 
 pub returns-clause-before : goal.returns-clause-before
 returns-clause-before g c =
