@@ -1,5 +1,5 @@
 -- Queues by places with tickets: what they stand for.
-use Rattle.std.proofs.Common.{filter, ◌≡◌, ℕ, ◌+◌, ◌<◌, Bool, true, false, cond, not, nat_eq}
+use Rattle.std.proofs.Common.{filter, map, ◌≡◌, ℕ, ◌+◌, ◌<◌, Bool, true, false, cond, not, nat_eq}
 use Rattle.std.proofs.Common.{List, [], ◌∷◌, ◌++◌, length, find, Option, Some, None, slice_get, refl, sym, ap, ◌∙◌, arith}
 use Rattle.std.specs.BTreeMap.{insert_entry, is_at}
 use Rattle.std.specs.Cmp.{IsTotalOrder, ranks, alike_right}
@@ -315,3 +315,17 @@ pub none_left : {K : Type 0} (done : List (K × ℕ)) (rest : List (Place K × �
 none_left [] [] none = refl
 none_left (e ∷ done) [] none = ap (λ all. e ∷ all) (none_left done [] none)
 none_left done (e ∷ rest) none = absurd (omega (arith, none))
+
+-- what is left of a list that stands for another
+pub map-filter : {A B : Type 0} (f : A → B) (p : A → Bool) (q : B → Bool) → ((a : A) → p a ≡ q (f a))
+    → (items : List A) → map f (filter p items) ≡ filter q (map f items)
+map-filter f p q same [] = refl
+map-filter f p q same (a ∷ items) =
+    ap (λ b. map f (cond b (a ∷ filter p items) (filter p items))) (same a)
+    ∙ by (q (f a)) (map-filter f p q same items)
+  where
+    by : (b : Bool) → map f (filter p items) ≡ filter q (map f items)
+        → map f (cond b (a ∷ filter p items) (filter p items))
+        ≡ cond b (f a ∷ filter q (map f items)) (filter q (map f items))
+    by true ih = ap (λ rest. f a ∷ rest) ih
+    by false ih = ih
