@@ -109,6 +109,7 @@ impl<K: Ord + Copy + Drop> Queues<K> {
     pub fn first(&self) -> Option<(K, u64)>
         ensures first { result ≡ slice_get self.now 0 }
         ensures rising { IsRising K.cmp self.now }
+        ensures apart { AreApart self.now }
     {
         let (place, shred) = self.places.first()?;
         Some((place.key, shred))
