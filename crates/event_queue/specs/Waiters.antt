@@ -1,20 +1,12 @@
--- Shreds that wait on events, in order of waiting.
-use Rattle.std.specs.Prelude.{ℕ, nat_eq, List, map, filter, find, Option}
+-- Shreds that wait on events.
+use Rattle.std.specs.Prelude.{ℕ, nat_eq, nat_lt, not, List, ◌∷◌, ◌++◌, filter, find, Option}
 use Rattle.ck_values.specs.declared.reference.Ref.{Ref}
-use Rattle.event_queue.specs.declared.Waiter.{Waiter}
 use Rattle.keyed_lists.specs.Keyed
 
 -- a shred that waits on an event
 pub record Wait : Type 0 where
   pub event : Ref
   pub shred : ℕ
-
--- what a waiter stands for
-abbrev pub wait_of : Waiter → Wait
-wait_of waiter = record { event = waiter.event; shred = waiter.shred }
-
-abbrev pub all_waits : List Waiter → List Wait
-all_waits waiters = map wait_of waiters
 
 -- what tells those that wait apart
 abbrev pub shred_of : Wait → ℕ
@@ -31,6 +23,12 @@ AreApart = Keyed.AreApart shred_of
 -- all but this shred, in the same order
 abbrev pub without : ℕ → List Wait → List Wait
 without = Keyed.without shred_of
+
+-- one that comes waits after all that wait on its event, or on events of lower numbers
+abbrev pub arrived : Wait → List Wait → List Wait
+arrived w waits =
+    filter (λ v. not (nat_lt w.event.serial v.event.serial)) waits
+    ++ w ∷ filter (λ v. nat_lt w.event.serial v.event.serial) waits
 
 -- what waits on the event of this number, the longest first
 abbrev pub waits_on : (event : ℕ) → List Wait → List Wait

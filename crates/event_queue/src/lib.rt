@@ -1,50 +1,46 @@
 //! Who waits for what: the shreds that wait on events, the longest first.
 //!
-//! Its one contract: contracts see the list of events and shreds in order of waiting, and
-//! [`Events::signal`] takes the longest waiter of one event. How the list is kept doesn't show.
-//! The machine of many shreds asks it whom an event wakes.
+//! Its one contract: contracts see the list of events and shreds by the numbers of the events, and
+//! for each event in order of waiting, and [`Events::signal`] takes the longest waiter of one
+//! event. The machine of many shreds asks it whom an event wakes.
 //!
 //! A shred waits on one event at most. Events are told apart by the numbers of their objects alone;
 //! any `u64` is the number of a shred. A broadcast is a signal again and again until None: each one
 //! leaves exactly the other waiters of the event, in their order. Only [`Events::wait`] takes
-//! memory.
+//! memory. Each call costs at most a logarithm of how many wait.
 #![tactic(auto)]
 
-ghost use Rattle.std.specs.Prelude.{◌≡◌, [], ◌∷◌, ◌++◌, IfSome, IfNone, OnOk, OnErr};
+ghost use Rattle.std.specs.Prelude.{◌≡◌, [], ◌∷◌, IfSome, IfNone, OnOk, OnErr};
 ghost use Rattle.std.specs.Option.{option_map};
-ghost use Rattle.event_queue.specs.Waiters.{wait_of, all_waits, times_waiting, without, waits_on};
+ghost use Rattle.event_queue.specs.Waiters.{times_waiting, without, arrived, waits_on};
 ghost use Rattle.event_queue.specs.Waiters.{longest, waiting};
 
+mod event;
+
+use crate::event::Event;
 use ck_values::Ref;
 use fixed_point::Memory;
+use shred_queues::Queues;
 use std::alloc::Global;
 use std::marker::Model;
 
-/// A shred and the event that it waits on.
-#[derive(Clone, Copy)]
-struct Waiter {
-    event: Ref,
-    /// The shred's number.
-    shred: u64,
-}
-
 /// The shreds that wait, each on one event.
 ///
-/// Contracts see them with their events, in order of waiting.
+/// Contracts see them with their events, by the numbers of the events, and for each event in order
+/// of waiting.
 #[derive(Drop)]
 pub struct Events {
-    waiters: Vec<Waiter>,
+    queues: Queues<Event>,
 }
 
 impl Model for Events {
     ghost use Rattle.std.specs.Prelude.{List};
-    ghost use Rattle.event_queue.specs.Waiters.{Wait, all_waits, AreApart};
+    ghost use Rattle.event_queue.specs.Waiters.{Wait};
+    ghost use Rattle.event_queue.specs.Events.{all_waits};
 
     ghost Value = { List Wait };
 
-    ghost view = { λ e. all_waits e.waiters.items };
-
-    ghost invariant = { λ e. AreApart (all_waits e.waiters.items) };
+    ghost view = { λ e. all_waits e.queues };
 }
 
 impl Events {
@@ -53,7 +49,7 @@ impl Events {
         ensures { result ≡ [] }
     {
         Events {
-            waiters: Vec::new(alloc),
+            queues: Queues::new(alloc),
         }
     }
 
@@ -62,11 +58,10 @@ impl Events {
     pub fn wait(&mut self, event: Ref, shred: u64) -> Result<(), Memory>
         requires not_waiting { times_waiting shred self.old ≡ 0 }
         ensures waits { OnOk result
-            (self.new ≡ self.old ++ record { event = event; shred = shred } ∷ []) }
+            (self.new ≡ arrived (record { event = event; shred = shred }) self.old) }
         ensures same { OnErr result (self.new ≡ self.old) }
     {
-        self.waiters.push(Waiter { event, shred })?;
-        Ok(())
+        self.queues.push(Event { object: event }, shred)
     }
 
     /// Takes the longest waiter of an event; None exactly where none waits on an event of that
@@ -79,9 +74,9 @@ impl Events {
         ensures none { IfNone result (waits_on event.serial self.old ≡ []) }
         ensures same { IfNone result (self.new ≡ self.old) }
     {
-        let woken = longest_of(&self.waiters, event)?;
-        self.waiters.retain(|waiter| waiter.shred != woken.shred);
-        Some(woken.shred)
+        let (_, shred) = self.queues.first_of(Event { object: event })?;
+        self.queues.remove(shred);
+        Some(shred)
     }
 
     /// Takes a shred out, and tells the event that it waited on; None exactly where it waits on
@@ -90,32 +85,7 @@ impl Events {
         ensures event { result ≡ option_map (λ wait. wait.event) (waiting shred self.old) }
         ensures without { self.new ≡ without shred self.old }
     {
-        let event = event_of(&self.waiters, shred);
-        self.waiters.retain(|waiter| waiter.shred != shred);
-        event
+        let event = self.queues.remove(shred)?;
+        Some(event.object)
     }
-}
-
-/// The longest waiter of an event.
-fn longest_of(waiters: &[Waiter], event: Ref) -> Option<Waiter>
-    ensures { option_map wait_of result ≡ longest event.serial (all_waits waiters.now) }
-{
-    for waiter in waiters {
-        if waiter.event.serial == event.serial {
-            return Some(*waiter);
-        }
-    }
-    None
-}
-
-/// The event that a shred waits on.
-fn event_of(waiters: &[Waiter], shred: u64) -> Option<Ref>
-    ensures { result ≡ option_map (λ wait. wait.event) (waiting shred (all_waits waiters.now)) }
-{
-    for waiter in waiters {
-        if waiter.shred == shred {
-            return Some(waiter.event);
-        }
-    }
-    None
 }

@@ -1,20 +1,19 @@
--- Shreds that are due at some time, in order of arrival.
+-- Shreds that are due at some time.
 use Rattle.std.specs.Prelude.{ℕ, ℤ, int_lt, int_le, if◌then◌else◌}
-use Rattle.std.specs.Prelude.{List, [], ◌∷◌, map, Option, Some, None}
+use Rattle.std.specs.Prelude.{not, List, [], ◌∷◌, ◌++◌, map, filter, Option, Some, None}
 use Rattle.std.specs.Int.{int_min}
 use Rattle.keyed_lists.specs.Keyed
-use Rattle.shreduler.specs.declared.Entry.{Entry}
 
 -- a shred that is due at a time
 pub record Due : Type 0 where
   pub time : ℤ
   pub shred : ℕ
 
--- what an entry stands for
-abbrev pub due_of : Entry → Due
-due_of entry = record { time = entry.time; shred = entry.shred }
+-- what a shred in the queue of a time stands for
+abbrev pub due_of : ℤ × ℕ → Due
+due_of entry = record { time = entry.0; shred = entry.1 }
 
-abbrev pub all_due : List Entry → List Due
+abbrev pub all_due : List (ℤ × ℕ) → List Due
 all_due entries = map due_of entries
 
 -- what tells those that are due apart
@@ -25,13 +24,13 @@ shred_of due = due.shred
 abbrev pub times_due : ℕ → List Due → ℕ
 times_due = Keyed.times shred_of
 
--- each shred is due at most once
-abbrev pub AreApart : List Due → Type 0
-AreApart = Keyed.AreApart shred_of
-
 -- all but this shred, in the same order
 abbrev pub without : ℕ → List Due → List Due
 without = Keyed.without shred_of
+
+-- one that comes is due after all that are due by its time
+abbrev pub arrived : Due → List Due → List Due
+arrived d due = filter (λ e. not (int_lt d.time e.time)) due ++ d ∷ filter (λ e. int_lt d.time e.time) due
 
 -- the sooner of two, the first one where they are due together
 abbrev pub sooner : Due → Option Due → Due

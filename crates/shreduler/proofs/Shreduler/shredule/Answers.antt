@@ -1,13 +1,21 @@
-use Rattle.std.proofs.Common.{subst, sym}
-use Rattle.shreduler.specs.Queue.{all_due, AreApart, due_of, shred_of}
-use Rattle.keyed_lists.proofs.Changes.{apart_pushed}
+use mir.Syntax.{w64}
+use mir.Val.{SFits}
+use Rattle.std.proofs.Common.{rules, ap, ◌∙◌}
+use Rattle.std.proofs.lemmas.Int.{to_z-of_z}
+use Rattle.std.specs.Ordering.{int_cmp}
+use Rattle.shred_queues.specs.Queues as queues
+use Rattle.shred_queues.proofs.Orders.{on_ok}
+use Rattle.shreduler.specs.Queue.{all_due, arrived}
+use Rattle.shreduler.proofs.Dues.{arrived_same}
 use Rattle.shreduler.proofs.Shreduler.shredule.Goals as goal
 
-pub invariant_of-self : goal.invariant_of-self
-invariant_of-self c =
-    subst (λ items. AreApart (all_due items)) (sym c.in_err-push.ensures.items) c.self.invariant
-
-pub invariant_of-self-2 : goal.invariant_of-self-2
-invariant_of-self-2 c =
-    apart_pushed due_of shred_of c.self.inside.entries.items _ _ c.in_ok-push.ensures.items c.self.invariant
-    (rw c.self.view_is c.requires.not_due)
+pub returns-clause-due : goal.returns-clause-due
+returns-clause-due c =
+    let fits : SFits w64 c.args.time = search rules in
+    let es = c.self.inside.queues in
+    on_ok c.push.result c.push.ensures.arrived
+    (λ put. ap all_due put
+    ∙ ap (λ time. all_due (queues.arrived int_cmp time c.args.shred es))
+    (to_z-of_z w64 c.args.time fits)
+    ∙ arrived_same c.args.time c.args.shred es
+    ∙ ap (arrived (record { time = c.args.time; shred = c.args.shred })) c.self.view_is)
