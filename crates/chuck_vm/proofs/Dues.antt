@@ -1,5 +1,5 @@
 -- Lists of which the same shreds are due at each time in the same order.
-use Rattle.std.proofs.Common.{◌≡◌, ℕ, ◌+◌, ℤ, int_eq, int_lt, int_le, ◌<ℤ◌, ◌≤ℤ◌, Bool, true, false, cond, List, [], ◌∷◌, ◌++◌, map, filter, Option, Some, None, refl, sym, ap, ◌∙◌, subst, arith}
+use Rattle.std.proofs.Common.{◌≡◌, ℕ, ◌+◌, ℤ, int_eq, int_lt, int_le, ◌<ℤ◌, ◌≤ℤ◌, Bool, true, false, cond, not, List, [], ◌∷◌, ◌++◌, map, filter, Option, Some, None, refl, sym, ap, ◌∙◌, subst, arith}
 use Rattle.std.proofs.lemmas.Bool.Decides.{Decides-int_eq}
 use Rattle.std.proofs.lemmas.Int.{ints}
 use Rattle.std.proofs.lemmas.List.{map-append}
@@ -9,6 +9,7 @@ use Rattle.ck_run.specs.Run.{Due, sooner, first_due}
 use Rattle.ck_run.proofs.Lists.{times-filter_le}
 use Rattle.ck_store.specs.Steps.{pick}
 use Rattle.chuck_vm.specs.Machine.{shreds_due, AreDueAlike}
+use Rattle.chuck_vm.proofs.Alike.{appended, arrived_alike}
 
 -- two times are one or not
 data Times (one two : ℤ) : Type 0 where
@@ -67,11 +68,34 @@ one_more_due one two d alike = λ time.
     shreds_due-append time one (d ∷ []) ∙ ap (λ l. l ++ shreds_due time (d ∷ [])) (alike time)
     ∙ sym (shreds_due-append time two (d ∷ []))
 
-pub pushed_due : (one longer two : List Due) (d : Due) → longer ≡ one ++ d ∷ [] → AreDueAlike one two
+pub pushed_due : (one longer two : List Due) (d : Due) → AreDueAlike longer (one ++ d ∷ []) → AreDueAlike one two
     → AreDueAlike longer (two ++ d ∷ [])
 pushed_due one longer two d pushed alike =
-    joined_due longer (one ++ d ∷ []) (two ++ d ∷ []) (same_due longer (one ++ d ∷ []) pushed)
-    (one_more_due one two d alike)
+    joined_due longer (one ++ d ∷ []) (two ++ d ∷ []) pushed (one_more_due one two d alike)
+
+-- what is due after all that are due by its time might as well be due after all
+self : (time : ℤ) → int_eq time time ≡ true
+self time = (Decides-int_eq time time).1 refl
+
+means : (one two : ℤ) → int_eq one two ≡ true → one ≡ two
+means one two = (Decides-int_eq one two).0
+
+later : (one two : ℤ) → int_lt one two ≡ true → int_eq one two ≡ false
+later one two lt = by (times_of one two)
+  where
+    by : Times one two → int_eq one two ≡ false
+    by (at_once is e) = absurd (grind (arith, ints, lt, is))
+    by (apart ne e) = e
+
+pub arrived_due : (d : Due) (dues : List Due)
+    → AreDueAlike (filter (λ e. not (int_lt d.time e.time)) dues ++ d ∷ filter (λ e. int_lt d.time e.time) dues)
+    (dues ++ d ∷ [])
+arrived_due d dues =
+    arrived_alike int_eq means self (λ (d : Due). d.time) (λ (d : Due). d.shred) int_lt later d dues
+
+pub appended_due : (one two more : List Due) → AreDueAlike one two → AreDueAlike (one ++ more) (two ++ more)
+appended_due one two more alike =
+    appended int_eq means self (λ (d : Due). d.time) (λ (d : Due). d.shred) one two more alike
 
 -- only some shreds stay
 shreds_due-stay : (stays : ℕ → Bool) (time : ℤ) (dues : List Due)

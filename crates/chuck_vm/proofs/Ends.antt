@@ -19,7 +19,7 @@ use Rattle.machine_world.specs.Units.{detached}
 use Rattle.machine_world.specs.Units as made
 use Rattle.machine_world.specs.Worlds.{StandsFor}
 use Rattle.chuck_vm.specs.declared.machine.Machine.{Machine}
-use Rattle.chuck_vm.specs.Machine.{shred_of, shreds_of, due_of, wait_of, numbers, ends_behind, AreDueAlike, Stands}
+use Rattle.chuck_vm.specs.Machine.{shred_of, shreds_of, due_of, wait_of, numbers, ends_behind, AreDueAlike, WaitAlike, Stands}
 use Rattle.chuck_vm.proofs.Lists.{map-push, got, split_at, take_one, take_removed, drop_removed, take_all, drop_all}
 
 -- the numbers of shreds of a run
@@ -397,23 +397,26 @@ module _ (code : CodeParts) (n below : ℕ) (start : Run Stopped) (items : List 
 -- stayed that don't end
 pub record EndsBefore (code : CodeParts) (n below at : ℕ) (start : Run Stopped) (now : Machine) : Type 0 where
   pub dues : List Due
+  pub waiting : List Wait
   pub store : Store
   pub ending : Ending n below start (shreds_of code (take at now.shreds.items))
-      (shreds_of code (drop at now.shreds.items)) dues (map wait_of now.waits) store
+      (shreds_of code (drop at now.shreds.items)) dues waiting store
   pub due : AreDueAlike (map due_of now.due) dues
+  pub waits : WaitAlike (map wait_of now.waits) waiting
   pub world : StandsFor now.world store
 
 pub none_yet : (n below : ℕ) (start : Run Stopped) (machine : Machine) → Stands machine start
     → IsFamily below start.shreds → EndsBefore machine.code n below 0 start machine
 none_yet n below start machine stands family =
-    let E : List (Shred Stopped) → List Wait → Type 0 =
-    λ rest waiting. Ending n below start [] rest start.due waiting start.store in
+    let E : List (Shred Stopped) → Type 0 =
+    λ rest. Ending n below start [] rest start.due start.waits start.store in
     record {
       dues = start.due;
+      waiting = start.waits;
       store = start.store;
-      ending = subst (λ ws. E (shreds_of machine.code machine.shreds.items) ws) (sym stands.waits)
-          (subst (λ ss. E ss start.waits) (sym stands.shreds) (none_ended n below start family));
+      ending = subst E (sym stands.shreds) (none_ended n below start family);
       due = stands.due;
+      waits = stands.waits;
       world = stands.store;
     }
 
@@ -423,7 +426,7 @@ pub ended_all : (n below at : ℕ) (start : Run Stopped) (old new : Machine) →
     → Stands new (ended start n)
 ended_all n below at start old new family same_code past so_far =
     let items = new.shreds.items in
-    let waiting = map wait_of new.waits in
+    let waiting = so_far.waiting in
     let R : List Standing → Type 0 = λ rest. Ending n below start (shreds_of old.code (take at items))
     (shreds_of old.code rest) so_far.dues waiting so_far.store in
     let K : List Standing → Type 0 = λ kept. Ending n below start (shreds_of old.code kept) [] so_far.dues
@@ -435,5 +438,5 @@ ended_all n below at start old new family same_code past so_far =
       store = so_far.world;
       shreds = ap (λ code. shreds_of code items) same_code;
       due = so_far.due;
-      waits = refl;
+      waits = so_far.waits;
     })

@@ -16,3 +16,5 @@ pub mod Making
 pub mod Ran
 pub mod Pieces
 pub mod Tallying
+pub mod Alike
+pub mod Waits

@@ -25,6 +25,7 @@ use Rattle.chuck_vm.specs.Running.{CanRun, OfSettled}
 use Rattle.chuck_vm.specs.Telling.{Becomes, TellsFront, Adds, AddsFronts}
 use Rattle.chuck_vm.specs.Tallies.{as_counted, Counts}
 use Rattle.chuck_vm.specs.Wakes.{wakes_meant}
+use Rattle.chuck_vm.proofs.Waits.{joined_waits, same_waits}
 use Rattle.chuck_vm.proofs.Applying.{text-append}
 use Rattle.chuck_vm.proofs.Counting.{counted_on}
 use Rattle.chuck_vm.proofs.Dues.{same_due, joined_due}
@@ -145,7 +146,8 @@ module _ (code : CodeParts) (names : List (List ℕ)) where
         shreds = ap (shreds_of new.code) shreds ∙ ap (λ code. shreds_of code old.shreds.items) same ∙ stands.shreds;
         due = joined_due (map due_of new.due) (map due_of old.due) q.due
             (same_due (map due_of new.due) (map due_of old.due) (ap (map due_of) due)) stands.due;
-        waits = ap (map wait_of) waits ∙ stands.waits;
+        waits = joined_waits (map wait_of new.waits) (map wait_of old.waits) q.waits
+            (same_waits (map wait_of new.waits) (map wait_of old.waits) (ap (map wait_of) waits)) stands.waits;
       } in
       subst (Stands new) (sym (next_run cod code.mains code.statics n))
       (told_alike new (sampled cod q) (told run.samples run.text run.wakes run.begun (sampled cod q)) refl here)

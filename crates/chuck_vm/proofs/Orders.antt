@@ -12,9 +12,10 @@ use Rattle.shreduler.specs.Queue as queue
 use Rattle.event_queue.specs.Waiters as waiters
 use Rattle.machine_world.specs.Worlds.{StandsFor}
 use Rattle.chuck_vm.specs.declared.machine.Machine.{Machine}
-use Rattle.chuck_vm.specs.Machine.{shreds_of, due_of, wait_of, Stands}
+use Rattle.chuck_vm.specs.Machine.{shreds_of, due_of, wait_of, AreDueAlike, WaitAlike, Stands}
 use Rattle.chuck_vm.specs.Telling.{longest}
 use Rattle.chuck_vm.proofs.Dues.{pushed_due}
+use Rattle.chuck_vm.proofs.Waits.{same_waits, joined_waits, pushed_waits, stay_waits, times_waits, first_waits}
 use Rattle.chuck_vm.proofs.Queues.{longest_number}
 
 pub some_of : {A : Type 0} (o : Option A) → is_some o ≡ true → (x : A) × (o ≡ Some x)
@@ -43,7 +44,7 @@ waiter_not_due next event shred run (Some w) orderly found is =
 
 -- a machine to which one more is due stands for the run to which it is
 pub due_stands : (machine : Machine) (run : Run Stopped) (time : ℤ) (n : ℕ) (dues : List queue.Due)
-    → map due_of dues ≡ map due_of machine.due ++ record { time = time; shred = n } ∷ []
+    → AreDueAlike (map due_of dues) (map due_of machine.due ++ record { time = time; shred = n } ∷ [])
     → Stands machine run → Stands (record machine { due = dues }) (with_due run time n)
 due_stands machine run time n dues pushed stands = record {
   store = stands.store;
@@ -55,7 +56,7 @@ due_stands machine run time n dues pushed stands = record {
 
 -- and one for which one more waits
 pub wait_stands : (machine : Machine) (run : Run Stopped) (event n : ℕ) (waits : List waiters.Wait)
-    → map wait_of waits ≡ map wait_of machine.waits ++ record { event = event; shred = n } ∷ []
+    → WaitAlike (map wait_of waits) (map wait_of machine.waits ++ record { event = event; shred = n } ∷ [])
     → Stands machine run
     → Stands (record machine { waits = waits })
     (record run { waits = run.waits ++ record { event = event; shred = n } ∷ [] })
@@ -65,7 +66,7 @@ wait_stands machine run event n waits pushed stands =
       store = stands.store;
       shreds = stands.shreds;
       due = stands.due;
-      waits = pushed ∙ ap (λ ws. ws ++ wait ∷ []) stands.waits;
+      waits = pushed_waits (map wait_of machine.waits) (map wait_of waits) run.waits wait pushed stands.waits;
     }
 
 -- a child that was begun
@@ -73,7 +74,7 @@ pub child_stands : (old new : Machine) (run : Run Stopped) (parent number : ℕ)
     → new.world ≡ old.world → new.waits ≡ old.waits
     → shreds_of new.code new.shreds.items
     ≡ shreds_of old.code old.shreds.items ++ record { number = number; parent = parent; progress = p } ∷ []
-    → map due_of new.due ≡ map due_of old.due ++ record { time = run.store.now; shred = number } ∷ []
+    → AreDueAlike (map due_of new.due) (map due_of old.due ++ record { time = run.store.now; shred = number } ∷ [])
     → is_some (live run parent) ≡ true → Stands old run
     → Stands new (with_child run parent number p (live run parent))
 child_stands old new run parent number p world waits are pushed some stands =
@@ -84,7 +85,8 @@ child_stands old new run parent number p world waits are pushed some stands =
       shreds = are ∙ ap (λ ss. ss ++ child ∷ []) stands.shreds;
       due = pushed_due (map due_of old.due) (map due_of new.due) run.due
           (record { time = run.store.now; shred = number }) pushed stands.due;
-      waits = ap (map wait_of) waits ∙ stands.waits;
+      waits = joined_waits (map wait_of new.waits) (map wait_of old.waits) run.waits
+          (same_waits (map wait_of new.waits) (map wait_of old.waits) (ap (map wait_of) waits)) stands.waits;
     })
 
 pub no_child : (machine : Machine) (run : Run Stopped) (parent number : ℕ) (p : Stopped)
@@ -98,7 +100,7 @@ pub woken_stands : (machine : Machine) (run : Run Stopped) (event shred : ℕ) (
     (dues : List queue.Due) (o : Option Wait) → longest event run ≡ o
     → Some shred ≡ option_map (λ (w : Wait). w.shred) o
     → map wait_of waits ≡ filter (λ other. not (nat_eq other.shred shred)) (map wait_of machine.waits)
-    → map due_of dues ≡ map due_of machine.due ++ record { time = run.store.now; shred = shred } ∷ []
+    → AreDueAlike (map due_of dues) (map due_of machine.due ++ record { time = run.store.now; shred = shred } ∷ [])
     → Stands machine run
     → Stands (record machine { waits = waits; due = dues }) (woken run (longest event run))
     × (true ≡ is_some (longest event run))
@@ -115,7 +117,11 @@ woken_stands machine run event shred waits dues (Some w) found is left pushed st
       shreds = stands.shreds;
       due = pushed_due (map due_of machine.due) (map due_of dues) run.due
           (record { time = run.store.now; shred = shred }) pushed stands.due;
-      waits = left ∙ ap (filter (λ (other : Wait). not (nat_eq other.shred shred))) stands.waits;
+      waits =
+          let stay = filter (λ (other : Wait). not (nat_eq other.shred shred)) in
+          joined_waits (map wait_of waits) (stay (map wait_of machine.waits)) (stay run.waits)
+          (same_waits (map wait_of waits) (stay (map wait_of machine.waits)) left)
+          (stay_waits (λ m. not (nat_eq m shred)) (map wait_of machine.waits) run.waits stands.waits);
     } in (
       subst (λ o. Stands new (woken run o)) (sym found) (subst (λ n. Stands new (woke n)) e here),
       ap is_some (sym found),
@@ -127,7 +133,7 @@ pub longest_stands : (machine : Machine) (run : Run Stopped) (event : ℕ) → S
     ≡ option_map (λ (w : Wait). w.shred) (longest event run)
 longest_stands machine run event stands =
     longest_number event machine.waits
-    ∙ ap (λ ws. option_map (λ (w : Wait). w.shred) (find (λ wait. nat_eq wait.event event) ws)) stands.waits
+    ∙ first_waits event (map wait_of machine.waits) run.waits stands.waits
 
 -- none waits twice in any run, as none does in one
 pub waits_apart : (machine : Machine) (one two : Run Stopped) (next : ℕ) → Stands machine one
@@ -135,7 +141,8 @@ pub waits_apart : (machine : Machine) (one two : Run Stopped) (next : ℕ) → S
 waits_apart machine one two next stands stands2 orderly m =
     omega (
       arith,
-      ap (times (λ (w : Wait). w.shred) m) (sym stands.waits ∙ stands2.waits),
+      times_waits m (map wait_of machine.waits) one.waits stands.waits,
+      times_waits m (map wait_of machine.waits) two.waits stands2.waits,
       orderly.once m,
       live-once one.shreds 1 next m orderly.family.order,
     )

@@ -1,5 +1,5 @@
 -- What is due and what waits, in the words of a run.
-use Rattle.std.proofs.Common.{◌≡◌, ℕ, ◌+◌, ℤ, int_lt, int_le, Bool, true, false, cond, not, nat_eq, List, [], ◌∷◌, ◌++◌, filter, find, map, Option, option_map, unwrap_or, Some, None, IfSome, ◌<ℤ◌, subst, refl, sym, ap, ◌∙◌, arith}
+use Rattle.std.proofs.Common.{◌≡◌, ℕ, ◌+◌, ℤ, int_lt, int_le, Bool, true, false, cond, not, nat_eq, nat_lt, List, [], ◌∷◌, ◌++◌, filter, find, map, Option, option_map, unwrap_or, Some, None, IfSome, ◌<ℤ◌, subst, refl, sym, ap, ◌∙◌, arith}
 use Rattle.std.proofs.lemmas.Bool.{eq-eqb, ne_eqb}
 use Rattle.std.proofs.lemmas.List.Sums.{sum_by-cons}
 use Rattle.ck_store.specs.Steps.{pick}
@@ -9,8 +9,11 @@ use Rattle.ck_run.proofs.Lists.{same, other, turn}
 use Rattle.shreduler.specs.Queue as queue
 use Rattle.event_queue.specs.Waiters as waiters
 use Rattle.ck_values.specs.declared.reference.Ref.{Ref}
-use Rattle.chuck_vm.specs.Machine.{due_of, wait_of}
-use Rattle.chuck_vm.proofs.Lists.{map-push}
+use Rattle.std.proofs.lemmas.List.{map-append}
+use Rattle.shred_queues.proofs.Tickets.{map-filter}
+use Rattle.chuck_vm.specs.Machine.{due_of, wait_of, AreDueAlike, WaitAlike}
+use Rattle.chuck_vm.proofs.Dues.{same_due, joined_due, arrived_due}
+use Rattle.chuck_vm.proofs.Waits.{same_waits, joined_waits, arrived_waits}
 
 hit_is : (n m : ℕ) → cond (nat_eq m n) 1 0 ≡ hit n m
 hit_is n m = elim (turn n m) [
@@ -117,18 +120,43 @@ longest_number event waits = by (waiters.longest event waits)
     by (Some w) = refl
 
 -- one more
-pub due_pushed : (dues dues2 : List queue.Due) (time now : ℤ) (n : ℕ) → dues2 ≡ dues
-    ++ record { time = time; shred = n } ∷ [] → time ≡ now
-    → map due_of dues2 ≡ map due_of dues ++ record { time = now; shred = n } ∷ []
+pub due_pushed : (dues dues2 : List queue.Due) (time now : ℤ) (n : ℕ)
+    → dues2 ≡ queue.arrived (record { time = time; shred = n }) dues → time ≡ now
+    → AreDueAlike (map due_of dues2) (map due_of dues ++ record { time = now; shred = n } ∷ [])
 due_pushed dues dues2 time now n pushed is =
-    ap (map due_of) pushed ∙ map-push due_of dues (record { time = time; shred = n })
-    ∙ ap (λ t. map due_of dues ++ record { time = t; shred = n } ∷ []) is
+    let d : queue.Due = record { time = time; shred = n } in
+    let now_due : Due = record { time = now; shred = n } in
+    let parts = filter (λ e. not (int_lt time e.time)) (map due_of dues)
+    ++ due_of d ∷ filter (λ e. int_lt time e.time) (map due_of dues) in
+    joined_due (map due_of dues2) parts (map due_of dues ++ now_due ∷ [])
+    (same_due (map due_of dues2) parts
+    (ap (map due_of) pushed
+    ∙ map-append due_of (filter (λ e. not (int_lt time e.time)) dues) (d ∷ filter (λ e. int_lt time e.time) dues)
+    ∙ ap (λ front. front ++ due_of d ∷ map due_of (filter (λ e. int_lt time e.time) dues))
+    (map-filter due_of (λ e. not (int_lt time e.time)) (λ e. not (int_lt time e.time)) (λ e. refl) dues)
+    ∙ ap (λ back. filter (λ e. not (int_lt time e.time)) (map due_of dues) ++ due_of d ∷ back)
+    (map-filter due_of (λ e. int_lt time e.time) (λ e. int_lt time e.time) (λ e. refl) dues)))
+    (subst (λ t. AreDueAlike parts (map due_of dues ++ record { time = t; shred = n } ∷ [])) is
+    (arrived_due (due_of d) (map due_of dues)))
 
-pub wait_pushed : (waits waits2 : List waiters.Wait) (event : Ref) (n : ℕ) → waits2 ≡ waits
-    ++ record { event = event; shred = n } ∷ []
-    → map wait_of waits2 ≡ map wait_of waits ++ record { event = event.serial; shred = n } ∷ []
-wait_pushed waits waits2 event n pushed = ap (map wait_of) pushed
-    ∙ map-push wait_of waits (record { event = event; shred = n })
+pub wait_pushed : (waits waits2 : List waiters.Wait) (event : Ref) (n : ℕ)
+    → waits2 ≡ waiters.arrived (record { event = event; shred = n }) waits
+    → WaitAlike (map wait_of waits2) (map wait_of waits ++ record { event = event.serial; shred = n } ∷ [])
+wait_pushed waits waits2 event n pushed =
+    let w : waiters.Wait = record { event = event; shred = n } in
+    let e = event.serial in
+    let parts = filter (λ v. not (nat_lt e v.event)) (map wait_of waits)
+    ++ wait_of w ∷ filter (λ v. nat_lt e v.event) (map wait_of waits) in
+    joined_waits (map wait_of waits2) parts (map wait_of waits ++ wait_of w ∷ [])
+    (same_waits (map wait_of waits2) parts
+    (ap (map wait_of) pushed
+    ∙ map-append wait_of (filter (λ v. not (nat_lt e v.event.serial)) waits)
+    (w ∷ filter (λ v. nat_lt e v.event.serial) waits)
+    ∙ ap (λ front. front ++ wait_of w ∷ map wait_of (filter (λ v. nat_lt e v.event.serial) waits))
+    (map-filter wait_of (λ v. not (nat_lt e v.event.serial)) (λ v. not (nat_lt e v.event)) (λ v. refl) waits)
+    ∙ ap (λ back. filter (λ v. not (nat_lt e v.event)) (map wait_of waits) ++ wait_of w ∷ back)
+    (map-filter wait_of (λ v. nat_lt e v.event.serial) (λ v. nat_lt e v.event) (λ v. refl) waits)))
+    (arrived_waits (wait_of w) (map wait_of waits))
 
 -- before the next time nothing is due
 none_queued : (dues : List queue.Due) → None ≡ queue.next_time dues → dues ≡ []

@@ -39,6 +39,7 @@ use Rattle.chuck_vm.specs.Running.{CanRunSlice, IsIdle, IsNumbered, Ran}
 use Rattle.chuck_vm.specs.Telling.{CanBegin, Becomes, TellsFront}
 use Rattle.chuck_vm.specs.Tallies.{Counts}
 use Rattle.chuck_vm.specs.Wakes.{stop_meant, wakes_meant}
+use Rattle.chuck_vm.proofs.Waits.{joined_waits, same_waits}
 use Rattle.chuck_vm.proofs.Applying.{acts_text, text-append}
 use Rattle.chuck_vm.proofs.Beginning.{slice_can}
 use Rattle.chuck_vm.proofs.Dues.{same_due, joined_due}
@@ -354,7 +355,9 @@ module _ (old m2 : Machine) (n place : ℕ) (stop : MachineStop) (acts : List Re
         ∙ ap (map (came s.number (stopped_of code ran.after))) scene.stands.shreds;
     due = joined_due (map due_of m2.due) (map due_of old.due) run.due
         (same_due (map due_of m2.due) (map due_of old.due) (ap (map due_of) ran.due_is)) scene.stands.due;
-    waits = ap (map wait_of) ran.waits_are ∙ scene.stands.waits;
+    waits = joined_waits (map wait_of m2.waits) (map wait_of old.waits) run.waits
+        (same_waits (map wait_of m2.waits) (map wait_of old.waits) (ap (map wait_of) ran.waits_are))
+        scene.stands.waits;
   }
 
   -- the instructions are told

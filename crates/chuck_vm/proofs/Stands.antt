@@ -5,7 +5,7 @@ use Rattle.ck_code.specs.declared.code.CodeParts.{CodeParts}
 use Rattle.ck_store.specs.Steps.{fresh}
 use Rattle.ck_store.specs.Store.{Store}
 use Rattle.ck_meaning.specs.Replay.{Stopped}
-use Rattle.ck_run.specs.Counts.{times, weight}
+use Rattle.ck_run.specs.Counts.{weight}
 use Rattle.ck_run.specs.Family.{AreInOrder, IsFamily}
 use Rattle.ck_run.specs.Run.{Shred, Due, Wait, Run, first_due}
 use Rattle.ck_run.specs.Sound.{IsSound, measure, times_due, times_waiting}
@@ -15,11 +15,12 @@ use Rattle.shreduler.specs.Queue as queue
 use Rattle.event_queue.specs.Waiters as waiters
 use Rattle.machine_world.specs.Worlds.{Parts, StandsFor, store_of}
 use Rattle.chuck_vm.specs.declared.machine.Machine.{Machine}
-use Rattle.chuck_vm.specs.Machine.{shreds_of, due_of, AreDueAlike, Stands}
+use Rattle.chuck_vm.specs.Machine.{shreds_of, due_of, wait_of, AreDueAlike, WaitAlike, Stands}
 use Rattle.chuck_vm.specs.Running.{CanRun, IsQuietBefore}
 use Rattle.chuck_vm.proofs.Dues.{none_due, first_alike, same_due, joined_due, stay_due}
-use Rattle.chuck_vm.proofs.Ends.{dues_but}
-use Rattle.chuck_vm.proofs.Queues.{dues_times, waits_times, dues_without, first_number}
+use Rattle.chuck_vm.proofs.Ends.{dues_but, waits_but}
+use Rattle.chuck_vm.proofs.Waits.{joined_waits, same_waits, stay_waits, times_waits}
+use Rattle.chuck_vm.proofs.Queues.{waits_without, dues_times, waits_times, dues_without, first_number}
 
 -- the time and the sporks of a store are those of each world that stands for it
 time_of : (world : Parts) → (store_of world).now ≡ world.time
@@ -61,7 +62,7 @@ told_alike machine one two same stands = record {
   store = subst (λ (r : Run Stopped). StandsFor machine.world r.store) same stands.store;
   shreds = stands.shreds ∙ ap (λ (r : Run Stopped). r.shreds) same;
   due = subst (λ (r : Run Stopped). AreDueAlike (map due_of machine.due) r.due) same stands.due;
-  waits = stands.waits ∙ ap (λ (r : Run Stopped). r.waits) same;
+  waits = subst (λ (r : Run Stopped). WaitAlike (map wait_of machine.waits) r.waits) same stands.waits;
 }
 
 pub quiet_stands : (machine : Machine) (run : Run Stopped) → Stands machine run → Stands machine (silent run)
@@ -102,7 +103,7 @@ not_due machine run n stands none =
 pub not_waiting : (machine : Machine) (run : Run Stopped) (n : ℕ) → Stands machine run
     → times_waiting n run ≡ 0 → waiters.times_waiting n machine.waits ≡ 0
 not_waiting machine run n stands none =
-    waits_times n machine.waits ∙ ap (times (λ (w : Wait). w.shred) n) stands.waits ∙ none
+    waits_times n machine.waits ∙ times_waits n (map wait_of machine.waits) run.waits stands.waits ∙ none
 
 -- what comes first in the machine comes first in the run
 pub first_stands : (machine : Machine) (run : Run Stopped) (now : ℤ) → Stands machine run
@@ -134,6 +135,14 @@ taken_stands machine run n left stands taken = record {
   due = taken_due n machine.due left run.due taken stands.due;
   waits = stands.waits;
 }
+
+-- and from what waits
+pub taken_waits : (n : ℕ) (waits left : List waiters.Wait) (waiting : List Wait) → left ≡ waiters.without n waits
+    → WaitAlike (map wait_of waits) waiting → WaitAlike (map wait_of left) (waits_but n waiting)
+taken_waits n waits left waiting taken alike =
+    joined_waits (map wait_of left) (waits_but n (map wait_of waits)) (waits_but n waiting)
+    (same_waits (map wait_of left) (waits_but n (map wait_of waits)) (ap (map wait_of) taken ∙ waits_without n waits))
+    (stay_waits (λ m. not (nat_eq m n)) (map wait_of waits) waiting alike)
 
 -- nothing is due before a time, where the same is due
 pub quiet_on : (old new : Machine) (run : Run Stopped) (time : ℤ) → new.due ≡ old.due → Stands old run

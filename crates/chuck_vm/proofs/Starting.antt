@@ -13,9 +13,10 @@ use Rattle.shred_state.specs.Frames.{Standing}
 use Rattle.shreduler.specs.Queue as queue
 use Rattle.machine_world.specs.Worlds.{StandsFor}
 use Rattle.chuck_vm.specs.declared.machine.Machine.{Machine}
-use Rattle.chuck_vm.specs.Machine.{shred_of, shreds_of, due_of, wait_of, AreDueAlike, Stands}
+use Rattle.chuck_vm.specs.Machine.{shred_of, shreds_of, due_of, wait_of, shreds_due, AreDueAlike, Stands}
 use Rattle.chuck_vm.specs.Telling.{CanBegin}
-use Rattle.chuck_vm.proofs.Dues.{same_due}
+use Rattle.chuck_vm.proofs.Dues.{appended_due, none_due}
+use Rattle.chuck_vm.proofs.Waits.{same_waits}
 use Rattle.chuck_vm.proofs.Lists.{map-push}
 use Rattle.chuck_vm.proofs.Queues.{due_pushed}
 
@@ -25,39 +26,40 @@ module _ (code : CodeParts) where
       0 where
     pub shreds_are : shreds_of code shreds ++ first_shreds (by_code code) (suc number) left
         ≡ first_shreds (by_code code) 1 code.mains
-    pub dues_are : map due_of dues ++ map first_due_of (first_shreds (by_code code) (suc number) left)
-        ≡ map first_due_of (first_shreds (by_code code) 1 code.mains)
+    pub dues_are : AreDueAlike (map due_of dues ++ map first_due_of (first_shreds (by_code code) (suc number) left))
+        (map first_due_of (first_shreds (by_code code) 1 code.mains))
     pub new : (m : ℕ) → number < m → times (λ (d : Due). d.shred) m (map due_of dues) ≡ 0
 
   pub none_started : Starting 0 code.mains [] []
-  none_started = record { shreds_are = refl; dues_are = refl; new = λ m lt. refl }
+  none_started = record { shreds_are = refl; dues_are = λ time. refl; new = λ m lt. refl }
 
   pub one_started : (number main : ℕ) (left : List ℕ) (shreds shreds2 : List Standing)
       (dues dues2 : List queue.Due) (s : Standing) → Starting number (main ∷ left) shreds dues
       → shreds2 ≡ shreds ++ s ∷ []
       → shred_of code s ≡ record { number = suc number; parent = 0; progress = beginning code main [] }
-      → dues2 ≡ dues ++ record { time = pos 0; shred = suc number } ∷ []
+      → dues2 ≡ queue.arrived (record { time = pos 0; shred = suc number }) dues
       → Starting (suc number) left shreds2 dues2
   one_started number main left shreds shreds2 dues dues2 s so_far pushed is due =
       let first : Shred Stopped =
       record { number = suc number; parent = 0; progress = beginning code main [] } in
       let d : Due = record { time = pos 0; shred = suc number } in
       let later = first_shreds (by_code code) (suc (suc number)) left in
-      let dues_now : map due_of dues2 ≡ map due_of dues ++ d ∷ [] =
+      let dues_now : AreDueAlike (map due_of dues2) (map due_of dues ++ d ∷ []) =
       due_pushed dues dues2 (pos 0) (pos 0) (suc number) due refl in
       record {
         shreds_are = ap (λ ss. ss ++ later) (ap (shreds_of code) pushed ∙ map-push (shred_of code) shreds s
             ∙ ap (λ x. shreds_of code shreds ++ x ∷ []) is)
             ∙ append_assoc (shreds_of code shreds) (first ∷ []) later ∙ so_far.shreds_are;
-        dues_are = ap (λ ds. ds ++ map first_due_of later) dues_now
-            ∙ append_assoc (map due_of dues) (d ∷ []) (map first_due_of later) ∙ so_far.dues_are;
-        new = λ m lt. ap (times (λ (d : Due). d.shred) m) dues_now
-            ∙ omega (
-              arith,
-              times-append (λ (d : Due). d.shred) m (map due_of dues) (d ∷ []),
-              so_far.new m (omega (arith, lt)),
-              hit-other m (suc number) (λ e. omega (arith, e, lt)),
-            );
+        dues_are = λ time.
+            appended_due (map due_of dues2) (map due_of dues ++ d ∷ []) (map first_due_of later) dues_now time
+            ∙ ap (shreds_due time) (append_assoc (map due_of dues) (d ∷ []) (map first_due_of later))
+            ∙ so_far.dues_are time;
+        new = λ m lt. none_due m (map due_of dues2) (map due_of dues ++ d ∷ []) dues_now (omega (
+          arith,
+          times-append (λ (d : Due). d.shred) m (map due_of dues) (d ∷ []),
+          so_far.new m (omega (arith, lt)),
+          hit-other m (suc number) (λ e. omega (arith, e, lt)),
+        ));
       }
 
   -- the next main
@@ -87,9 +89,7 @@ module _ (code : CodeParts) (number : ℕ) (left : List ℕ) (shreds : List Stan
   all_stand = sym (append-nil (shreds_of code shreds)) ∙ all.shreds_are
 
   pub all_due : AreDueAlike (map due_of dues) (map first_due_of (first_shreds (by_code code) 1 code.mains))
-  all_due =
-      same_due (map due_of dues) (map first_due_of (first_shreds (by_code code) 1 code.mains))
-      (sym (append-nil (map due_of dues)) ∙ all.dues_are)
+  all_due = λ time. ap (shreds_due time) (sym (append-nil (map due_of dues))) ∙ all.dues_are time
 
 -- the machine with them stands for the run that hasn't begun
 pub all_started : (machine : Machine)
@@ -103,5 +103,5 @@ all_started machine world waits shreds due = record {
   store = world;
   shreds = shreds;
   due = due;
-  waits = ap (map wait_of) waits;
+  waits = same_waits (map wait_of machine.waits) [] (ap (map wait_of) waits);
 }

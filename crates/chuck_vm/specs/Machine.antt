@@ -45,13 +45,22 @@ shreds_due time due = map (λ due. due.shred) (filter (λ due. int_eq due.time t
 abbrev pub AreDueAlike : (one two : List Due) → Type 0
 AreDueAlike one two = (time : ℤ) → shreds_due time one ≡ shreds_due time two
 
+-- the shreds that wait on an event, in their order
+abbrev pub shreds_waiting : (event : ℕ) → List Wait → List ℕ
+shreds_waiting event waits = map (λ wait. wait.shred) (filter (λ wait. nat_eq wait.event event) waits)
+
+-- on each event the same shreds wait, in the same order
+abbrev pub WaitAlike : (one two : List Wait) → Type 0
+WaitAlike one two = (event : ℕ) → shreds_waiting event one ≡ shreds_waiting event two
+
 -- the machine stands for a run, whatever that one has told: its world stands for the run's store,
--- the same shreds are live, at each time the same are due in the same order, and the same wait
+-- the same shreds are live, and at each time the same are due, and on each event the same wait, in
+-- the same order
 pub record Stands (machine : Machine) (run : Run Stopped) : Type 0 where
   pub store : StandsFor machine.world run.store
   pub shreds : shreds_of machine.code machine.shreds.items ≡ run.shreds
   pub due : AreDueAlike (map due_of machine.due) run.due
-  pub waits : map wait_of machine.waits ≡ run.waits
+  pub waits : WaitAlike (map wait_of machine.waits) run.waits
 
 -- some run that the machine stands for is such
 pub record HasRun (machine : Machine) (such : Run Stopped → Type 0) : Type 0 where

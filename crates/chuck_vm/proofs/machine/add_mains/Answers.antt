@@ -1,10 +1,11 @@
-use Rattle.std.proofs.Common.{◌≡◌, ◌<◌, ◌≤◌, ◌+◌, suc, List, All, slice_get, length, drop, get_or, pos, [], ◌∷◌, ◌++◌, rules, ap, sym, ◌∙◌, subst, arith}
+use Rattle.std.proofs.Common.{◌≡◌, ◌<◌, ◌≤◌, ◌+◌, suc, List, All, slice_get, length, drop, get_or, pos, [], rules, ap, sym, ◌∙◌, subst, arith}
 use Rattle.ck_values.specs.declared.value.Value.{Value}
 use Rattle.ck_values.specs.Datum.{all_meant}
 use Rattle.ck_code.specs.declared.code.CodeParts.{CodeParts}
 use Rattle.ck_code.specs.Verified.{IsVerified}
 use Rattle.ck_meaning.specs.Replay.{beginning}
 use Rattle.ck_typed.specs.WellFormed.{FoundWhere}
+use Rattle.shreduler.specs.Queue as queue
 use Rattle.chuck_vm.specs.Telling.{CanBegin}
 use Rattle.chuck_vm.proofs.Beginning.{begun_shred}
 use Rattle.chuck_vm.proofs.Lists.{drop_all}
@@ -54,7 +55,7 @@ loop-i-preserved c =
     }) none
     ∙ ap (λ n. record { number = n; parent = 0; progress = beginning code main [] }) next in
     let due = c.in_ok-shredule.ensures.due
-    ∙ ap (λ n. c.loop-i.due ++ record { time = pos 0; shred = n } ∷ []) next in
+    ∙ ap (λ n. queue.arrived (record { time = pos 0; shred = n }) c.loop-i.due) next in
     let here = next_main code mains i c.loop-i.shreds.items c.loop-i.due lt c.loop-i.invariant.started in
     let one = one_started code i main (drop (suc i) mains) c.loop-i.shreds.items c.push.new.self.items
     c.loop-i.due c.shredule.new.self shred here c.in_ok-push.ensures.items is due in

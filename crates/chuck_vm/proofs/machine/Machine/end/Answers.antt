@@ -1,15 +1,13 @@
-use Rattle.std.proofs.Common.{arith, rules, refl, sym, subst, ap, ◌∙◌, ◌<◌, ◌≤◌, length, map}
+use Rattle.std.proofs.Common.{arith, rules, refl, sym, subst, ap, ◌∙◌, ◌<◌, ◌≤◌, length}
 use Rattle.std.specs.List.Sorted.{IsNonDecreasingBy}
 use Rattle.shred_state.specs.Frames.{Standing}
 use Rattle.shreduler.specs.Queue as queue
 use Rattle.machine_world.specs.Units.{detached}
 use Rattle.machine_world.specs.Worlds.{StandsFor}
 use Rattle.event_queue.specs.Waiters as waiters
-use Rattle.chuck_vm.specs.Machine.{wait_of}
-use Rattle.chuck_vm.proofs.Ends.{dues_but, none_yet, end_step, stay_step, left_in_order, ended_all}
+use Rattle.chuck_vm.proofs.Ends.{dues_but, waits_but, none_yet, end_step, stay_step, left_in_order, ended_all}
 use Rattle.chuck_vm.proofs.Positions.{rising}
-use Rattle.chuck_vm.proofs.Queues.{waits_without}
-use Rattle.chuck_vm.proofs.Stands.{taken_due, order_stands, family_stands}
+use Rattle.chuck_vm.proofs.Stands.{taken_due, taken_waits, order_stands, family_stands}
 use Rattle.chuck_vm.proofs.machine.Machine.end.Goals as goal
 
 pub loop-kept-init : goal.loop-kept-init
@@ -41,9 +39,6 @@ loop-kept-preserved-then-ends_at c =
     let lt : c.loop-kept.kept < length items = search rules in
     let tests = rw c.as_slice.ensures.value at c.ends_at.ensures in
     let shred = c.remove.result in
-    let waits_left = ap (map wait_of) (c.drop_shred.ensures.without
-    ∙ ap (λ n. waiters.without n c.loop-kept.self.waits) c.id-ended.ensures)
-    ∙ waits_without shred.number c.loop-kept.self.waits in
     record {
       within = search rules;
       code = c.loop-kept.invariant.code;
@@ -54,15 +49,19 @@ loop-kept-preserved-then-ends_at c =
           let so_far = c.loop-kept.invariant.ending run stands next family in
           record {
             dues = dues_but shred.number so_far.dues;
+            waiting = waits_but shred.number so_far.waiting;
             store = detached shred.number so_far.store;
             ending =
                 end_step code c.args.number next run items c.loop-kept.kept so_far.dues
-                (map wait_of c.loop-kept.self.waits) so_far.store c.ends_at.result lt tests so_far.ending
+                so_far.waiting so_far.store c.ends_at.result lt tests so_far.ending
                 c.remove.new.self.items shred _ _ _ c.remove.ensures.value c.remove.ensures.items
-                c.if-ends_at.true refl waits_left refl;
+                c.if-ends_at.true refl refl refl;
             due = taken_due shred.number c.loop-kept.self.due c.remove-then-ends_at.new.self so_far.dues
                 (c.remove-then-ends_at.ensures.without
                 ∙ ap (λ n. queue.without n c.loop-kept.self.due) c.id-ended.ensures) so_far.due;
+            waits = taken_waits shred.number c.loop-kept.self.waits c.drop_shred.new.self so_far.waiting
+                (c.drop_shred.ensures.without
+                ∙ ap (λ n. waiters.without n c.loop-kept.self.waits) c.id-ended.ensures) so_far.waits;
             world = subst (λ n. StandsFor c.detach.new.self (detached n so_far.store)) c.id-ended.ensures
                 (c.detach.ensures.store so_far.store so_far.world);
           };
@@ -83,12 +82,14 @@ loop-kept-preserved c =
           let so_far = c.loop-kept.invariant.ending run stands next family in
           record {
             dues = so_far.dues;
+            waiting = so_far.waiting;
             store = so_far.store;
             ending =
                 stay_step code c.args.number next run items c.loop-kept.kept so_far.dues
-                (map wait_of c.loop-kept.self.waits) so_far.store c.ends_at.result lt tests so_far.ending
+                so_far.waiting so_far.store c.ends_at.result lt tests so_far.ending
                 c.if-ends_at.false;
             due = so_far.due;
+            waits = so_far.waits;
             world = so_far.world;
           };
     }

@@ -1,8 +1,9 @@
-use Rattle.std.proofs.Common.{◌≡◌, ◌∙◌, sym, refl, ap, subst, length, is_some, true, false, arith}
-use Rattle.ck_run.specs.Run.{Wait, woken}
+use Rattle.std.proofs.Common.{◌≡◌, ◌∙◌, sym, refl, subst, map, is_some, true, false, arith}
+use Rattle.ck_run.specs.Run.{woken}
 use Rattle.ck_run.proofs.Orderly.{orderly_woken}
-use Rattle.chuck_vm.specs.Machine.{Stands}
+use Rattle.chuck_vm.specs.Machine.{wait_of, Stands}
 use Rattle.chuck_vm.specs.Telling.{longest}
+use Rattle.chuck_vm.proofs.Waits.{length_waits}
 use Rattle.chuck_vm.proofs.Orders.{waits_apart, woken_next, woken_none, woken_fewer}
 use Rattle.chuck_vm.proofs.machine.Machine.wake_all.Goals as goal
 
@@ -25,8 +26,9 @@ waiters-smaller c =
     omega (
       arith,
       woken_fewer e run (longest e run) refl some,
-      ap (length {A = Wait}) orderly.stands.waits,
-      ap (length {A = Wait}) (c.in_ok-wake_one.ensures.woken run orderly.stands).waits,
+      length_waits (map wait_of c.waiters.self.waits) run.waits orderly.stands.waits,
+      length_waits (map wait_of c.wake_one.new.self.waits) next.waits
+          (c.in_ok-wake_one.ensures.woken run orderly.stands).waits,
     )
 
 pub waiters-preserved : goal.waiters-preserved
