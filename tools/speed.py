@@ -80,11 +80,13 @@ SLEEP = "fun void sleep() { 1::week => now; }\n"
 
 
 def sleepers(count):
-    """A text that wakes 100,000 times beside so many sleeping shreds."""
+    """A text of ten shreds that wake 100,000 times each, beside so many sleeping ones."""
+    part = min(count, 1000)
     return (
         SLEEP
-        + often(count // 1000, "for (0 => int i; i < 1000; i++) spork ~ sleep();")
-        + "for (0 => int i; i < 100000; i++) 1::samp => now;\n"
+        + "fun void go() { for (0 => int i; i < 100000; i++) 1::samp => now; }\n"
+        + often(count // part, f"for (0 => int i; i < {part}; i++) spork ~ sleep();")
+        + "for (0 => int i; i < 10; i++) spork ~ go();\n100001::samp => now;\n"
     )
 
 
@@ -188,15 +190,10 @@ GROUPS = {
         ),
     },
     "shreds": {
-        "sleepers": stats(110_000, "100,000 wakes beside 1,000 sleeping shreds", sleepers(1000)),
-        "many-sleepers": stats(110_000, "100,000 wakes beside 10,000 sleeping shreds", sleepers(10_000)),
         "sporks": stats(
             1001,
             "1,000,000 sporks, 1,000 at each sample",
             "fun void go() { }\n" + often(1000, "for (0 => int i; i < 1000; i++) spork ~ go();"),
-        ),
-        "broadcasts": stats(
-            1002, "an event with 4,096 waiters, broadcast 1,000 times", BROADCAST, is_for_chuck=False
         ),
         "yields": Row(
             "`while (true) me.yield();` in each of 64 files, one sample rendered",
@@ -204,6 +201,14 @@ GROUPS = {
             ["render", "1", "sheet.wav"],
             False,
             64,
+        ),
+    },
+    "queues": {
+        "few-sleepers": stats(100_000, "1,000,000 wakes of ten shreds beside 10 sleeping ones", sleepers(10)),
+        "sleepers": stats(100_000, "the same beside 1,000", sleepers(1000)),
+        "many-sleepers": stats(100_000, "the same beside 100,000", sleepers(100_000), is_for_chuck=False),
+        "broadcasts": stats(
+            1002, "an event with 4,096 waiters, broadcast 1,000 times", BROADCAST, is_for_chuck=False
         ),
     },
     "graph": {
