@@ -6,6 +6,8 @@ pub mod Fills
 pub mod Faults
 pub mod Verdicts
 pub mod MadeStmt
+pub mod MadeFor
+pub mod EmptyPairs
 pub mod MadeItem
 pub mod MadeParent
 pub mod Ends

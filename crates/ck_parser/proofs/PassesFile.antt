@@ -17,7 +17,7 @@ use Rattle.ck_parser.specs.Depth.{params_before_comma, fun_depths, member_depths
 use Rattle.ck_parser.specs.Depth.{parent_depths, item_depths, items_depths, file_depths}
 use Rattle.ck_parser.specs.Grammar.{IsHeadBase, of_constructor}
 use Rattle.ck_parser.specs.Grammar.{of_word, of_class, IsType, of_base, IsHead, of_head, IsDeclr, of_declr}
-use Rattle.ck_parser.specs.Grammar.{of_declr_with, IsBase, IsAt, IsPairs, of_no_pairs, of_pair}
+use Rattle.ck_parser.specs.Grammar.{of_declr_with, IsAt, IsPairs, of_no_pairs, of_pair}
 use Rattle.ck_parser.specs.Grammar.{IsBrackets, of_no_brackets, of_empty_bracket, of_for_each}
 use Rattle.ck_parser.specs.Grammar.{IsExpr, of_single, of_chuck, IsDeclrs, of_two, of_another}
 use Rattle.ck_parser.specs.Grammar.{IsExprStmt, of_empty, of_expr, of_declares, IsTest, of_test}
@@ -59,11 +59,11 @@ use Rattle.ck_syntax.specs.declared.declaration.DeclHead.{DeclHead}
 use Rattle.ck_syntax.specs.declared.declaration.TypeName.{TypeName}
 use Rattle.ck_syntax.specs.declared.file.Param.{Param}
 use Rattle.ck_parser.proofs.Passes.{any, Passes, stay, past, onward, same_head, skip, missing}
-use Rattle.ck_parser.proofs.Passes.{skip_may, skip_pairs, skip_brackets, Loose, sort, Head, higher}
+use Rattle.ck_parser.proofs.Passes.{skip_may, skip_pairs, Loose, sort, Head, higher}
 use Rattle.ck_parser.proofs.Passes.{opens-head, opens-expr, no_comma_at, no_colon_at, no_paren, no_semicolon}
 use Rattle.ck_parser.proofs.Passes.{pass-pairs, pass-type, pass-head, shut, reshape, whole}
 use Rattle.ck_parser.proofs.Passes.{whole_exprs, after_operator, past_chuck, pass-more}
-use Rattle.ck_parser.proofs.Passes.{pass-brackets, pass-operand, pass-expr, pass-rest, pass-arguments}
+use Rattle.ck_parser.proofs.Passes.{pass-operand, pass-expr, pass-rest, pass-arguments}
 
 skip_more_declrs : (ts : List Token) (d : ℕ) (xs : Declrs) (k : Declrs → State)
     → has (a_mark m.Comma) ts ≡ false → Passes ts (more_declrs d xs k) (λ ds. ds) ts (k xs)

@@ -1,8 +1,10 @@
 -- What is to come in a statement, behind its first word or mark.
-use Rattle.std.specs.Prelude.{◌≡◌, ℕ, suc, List, [], ◌∷◌, Bool, true, false, Option, Result, IfOk}
+use Rattle.std.specs.Prelude.{◌≡◌, ℕ, suc, List, [], ◌∷◌, Bool, true, false, Option, Some, None}
+use Rattle.std.specs.Prelude.{MatchOption, Result, IfOk}
 use Rattle.std.specs.Global.{Box}
 use Rattle.ck_lexer.specs.declared.mark.Mark.TheVariants as m
 use Rattle.ck_lexer.specs.declared.token.Token.{Token}
+use Rattle.ck_lexer.specs.declared.token.TokenKind.TheVariants.{Mark}
 use Rattle.ck_lexer.specs.declared.word.Word.TheVariants as w
 use Rattle.ck_parser.specs.declared.stmt_node.ForStart.{ForStart}
 use Rattle.ck_parser.specs.declared.stmt_node.ForStart.TheVariants as start
@@ -16,7 +18,8 @@ use Rattle.parse_exprs.specs.Operands.{Behind, optional, tree_of}
 use Rattle.parse_exprs.specs.Reads.{Slice, Reads, ReadsPart}
 use Rattle.parse_exprs.specs.Tokens.{Opening, opens_block, opens_if, opens_while, opens_until}
 use Rattle.parse_exprs.specs.Tokens.{opens_do, opens_for, opens_repeat, opens_fun, opens_class}
-use Rattle.parse_exprs.specs.Tokens.{opens_public, opens_nothing, opening, a_word, a_mark}
+use Rattle.parse_exprs.specs.Tokens.{opens_public, opens_nothing, opening, a_word, a_mark, has}
+use Rattle.parse_exprs.specs.Tokens.{Then}
 use Rattle.ck_syntax.specs.Tree as t
 use Rattle.ck_syntax.specs.Tree.{Name, Expr, Exprs, Declr, Declrs, Stmt, Stmts, no_stmts, no_declrs}
 use Rattle.ck_syntax.specs.Tree.{and_declr}
@@ -133,6 +136,16 @@ behind_start d l k = record { item = after_colon d l k; stmt = after_start d l k
 
 abbrev pub after_for : ℕ → ℕ → (Stmt → State) → State
 after_for d l k = sign (suc d) (a_mark m.LeftParen) (a_for_start (suc d) (behind_start d l k))
+
+-- whether a ':' comes next where a declarator of so many pairs of brackets may be an item's
+abbrev pub has_colon : Option ℕ → List Token → Bool
+has_colon None ts = false
+has_colon (Some q) ts = has (a_mark m.Colon) ts
+
+-- the pairs, and what stands behind the ':'; or none comes that may
+abbrev pub FindsColon : Option ℕ → List Token → Option (ℕ × Slice) → Type 0
+FindsColon o ts r = MatchOption r (has_colon o ts ≡ false)
+    (λ x. (o ≡ Some x.0) × Then (Mark m.Colon) ts x.1.now)
 
 abbrev pub each_of : ℕ → LoopItem → Expr → Stmt → Stmt
 each_of l x e s = t.for_each l x.head x.name x.brackets e s

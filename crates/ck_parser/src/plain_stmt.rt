@@ -1,7 +1,8 @@
 //! Statements with no other statement inside, and the heads of those that have one.
-ghost use Rattle.std.specs.Prelude.{◌≡◌, ◌≤◌, ◌<◌, true, length, IfOk};
+ghost use Rattle.std.specs.Prelude.{◌≡◌, ◌≤◌, ◌<◌, true, length, IfOk, IfSome};
 ghost use Rattle.ck_base.specs.declared.limits.TheConstants.{MAX_NESTING};
-ghost use Rattle.ck_parser.specs.Statements.{ReadsStmt, ReadsStart, ReadsForRest, stmt_of};
+ghost use Rattle.ck_parser.specs.Statements.{FindsColon, ReadsStmt, ReadsStart, ReadsForRest};
+ghost use Rattle.ck_parser.specs.Statements.{stmt_of};
 ghost use Rattle.ck_parser.specs.Statements.{a_for_start, after_print};
 ghost use Rattle.ck_parser.specs.Statements.{after_return, other_declrs};
 ghost use Rattle.ck_parser.specs.Statements.{do_end as a_do_end, has_plain, has_stmt};
@@ -259,6 +260,21 @@ fn empty_pairs(brackets: &[Bracket]) -> Option<usize>
     Some(brackets.len())
 }
 
+/// How many pairs of brackets the item of a `for` has, and what stands behind the `:`, where the
+/// declarator is one and a `:` comes next.
+fn item_colon<'a>(
+    head: &DeclHead,
+    declarator: &Declarator,
+    tokens: &'a [Token],
+) -> Option<(usize, &'a [Token])>
+    ensures colon { FindsColon (each_pairs head.now (view_declr declarator.now)) tokens.now result }
+    ensures fewer { IfSome result (λ x. length x.1.now < length tokens.now) }
+{
+    let pairs = item_pairs(head, declarator)?;
+    let rest = eat_mark(tokens, Mark::Colon)?;
+    Some((pairs, rest))
+}
+
 /// What begins the parentheses of a `for`, behind the declaration that it begins with.
 fn declared_start<'a>(
     alloc: Global,
@@ -273,18 +289,17 @@ fn declared_start<'a>(
         tokens.now result }
     ensures fewer { IfOk result (λ x. length x.1.now < length tokens.now) }
 {
-    if let Some(brackets) = item_pairs(&head, &first) {
-        if let Some(rest) = eat_mark(tokens, Mark::Colon) {
-            let item = LoopItem {
-                head,
-                name: first.name,
-                brackets,
-            };
-            return Ok((ForStart::Item(item), rest));
-        }
+    if let Some((brackets, rest)) = item_colon(&head, &first, tokens) {
+        let item = LoopItem {
+            head,
+            name: first.name,
+            brackets,
+        };
+        Ok((ForStart::Item(item), rest))
+    } else {
+        let (stmt, rest) = declare_stmt(alloc, depth, line, head, first, tokens)?;
+        Ok((ForStart::Stmt(stmt), rest))
     }
-    let (stmt, rest) = declare_stmt(alloc, depth, line, head, first, tokens)?;
-    Ok((ForStart::Stmt(stmt), rest))
 }
 
 /// What begins the parentheses of a `for`.
