@@ -46,15 +46,6 @@ module _ (bs : List Bracket) (i : ℕ) (b : Bracket) (lt : i < length bs) (is : 
   size_stops s e = ap (pairs_on i) (cut bs i b lt is)
       ∙ ap (λ x. pairs_on i (x ∷ drop (i + 1) bs)) e
 
-pub all_past : (bs : List Bracket) (n : ℕ) → pairs_on (n + length bs) (drop (length bs) bs)
-    ≡ Some (n + length bs)
-all_past [] n = refl
-all_past (b ∷ bs) n = ap (λ ys. pairs_on (n + suc (length bs)) ys) (none bs)
-  where
-    none : (bs : List Bracket) → drop (length bs) bs ≡ []
-    none [] = refl
-    none (b ∷ bs) = none bs
-
 pub pairs_of_item : (h : DeclHead) (x : Declarator) (bs : List Bracket) → h.is_static ≡ false
     → x.tail ≡ tail.Brackets bs
     → each_pairs h (view_declr x) ≡ empty_pairs (brackets_of no_brackets bs)

@@ -1,3 +1,4 @@
+pub mod Openings
 pub mod Passes
 pub mod PassesFile
 pub mod Size

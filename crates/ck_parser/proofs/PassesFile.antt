@@ -59,8 +59,10 @@ use Rattle.ck_syntax.specs.declared.declaration.DeclHead.{DeclHead}
 use Rattle.ck_syntax.specs.declared.declaration.TypeName.{TypeName}
 use Rattle.ck_syntax.specs.declared.file.Param.{Param}
 use Rattle.ck_parser.proofs.Passes.{any, Passes, stay, past, onward, same_head, skip, missing}
-use Rattle.ck_parser.proofs.Passes.{skip_may, skip_pairs, Loose, sort, Head, higher}
-use Rattle.ck_parser.proofs.Passes.{opens-head, opens-expr, no_comma_at, no_colon_at, no_paren, no_semicolon}
+use Rattle.ck_parser.proofs.Passes.{skip_may, skip_pairs, Loose}
+use Rattle.ck_parser.proofs.Openings.{sort, Head, higher}
+use Rattle.ck_parser.proofs.Passes.{no_comma_at, no_colon_at, no_paren, no_semicolon}
+use Rattle.ck_parser.proofs.Openings.{opens-head, opens-expr}
 use Rattle.ck_parser.proofs.Passes.{pass-pairs, pass-type, pass-head, shut, reshape, whole}
 use Rattle.ck_parser.proofs.Passes.{whole_exprs, after_operator, past_chuck, pass-more}
 use Rattle.ck_parser.proofs.Passes.{pass-operand, pass-expr, pass-rest, pass-arguments}
