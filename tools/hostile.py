@@ -28,7 +28,7 @@ OTHERS = LETTERS + "0123456789_"
 TAKEN = set(
     "if do me ms fun now int dur day dac for new else null NULL true false this time void samp "
     "hour week while until break class float spork repeat return static string public "
-    "second minute Std Math ADSR Echo Gain Step Event UGen Delay Noise Shred Big Low".split()
+    "second minute auto Std Math ADSR Echo Gain Step Event UGen Delay Noise Shred Big Low".split()
 )
 
 
