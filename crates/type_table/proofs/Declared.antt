@@ -56,15 +56,18 @@ abbrev mutual
   Declared t f o (tree.cast l e k) = Declared t f o e
   Declared t f o (tree.binary l a p b) = Declared t f o a × Declared t f o b
   Declared t f o (tree.choice l c a b) = Declared t f o c × Declared t f o a × Declared t f o b
-  Declared t f o (tree.declare l h (declr n bs)) = SizesDeclared t f o bs × IsDeclared t f o h (declr n bs)
-  Declared t f o (tree.declare l h (declr_with n es)) =
-      AllDeclared t f o es × IsDeclared t f o h (declr_with n es)
+  Declared t f o (tree.declare l h x) = BehindDeclared t f o x × IsDeclared t f o h x
   Declared t f o (tree.chuck l a p b) = Declared t f o a × Declared t f o b
   Declared t f o _ = Unit {0}
 
   pub AllDeclared : Table → (file : ℕ) → (class : Option ℕ) → Exprs → Type 0
   AllDeclared t f o no_exprs = Unit {0}
   AllDeclared t f o (and_expr es e) = AllDeclared t f o es × Declared t f o e
+
+  -- what stands behind a declared name
+  pub BehindDeclared : Table → (file : ℕ) → (class : Option ℕ) → Declr → Type 0
+  BehindDeclared t f o (declr n bs) = SizesDeclared t f o bs
+  BehindDeclared t f o (declr_with n es) = AllDeclared t f o es
 
   pub SizesDeclared : Table → (file : ℕ) → (class : Option ℕ) → Brackets → Type 0
   SizesDeclared t f o no_brackets = Unit {0}
