@@ -7,9 +7,10 @@ use Rattle.type_table.specs.declared.class.Head.{Head}
 use Rattle.type_table.specs.Table.{Table}
 use Rattle.first_walk.proofs.SameNames.{SameClasses, own_same, head_same}
 
--- Q says something of the class that has a function, its name, and its types
+-- Q says something of the class that has a function, its name, and its types; a constructor has no name
 abbrev pub FunHolds : (Q : Option ℕ → Name → Option Head → Type 0) → Table → (file : ℕ) → (class : Option ℕ) → Fun → Type 0
 FunHolds Q t f c (tree.fun l s result n ps body) = Q c n (head_of t f (tree.fun l s result n ps body))
+FunHolds Q t f c (tree.constructor l ps body) = Unit {0}
 
 abbrev pub MembersHold : (Q : Option ℕ → Name → Option Head → Type 0) → Table → (file class : ℕ) → Members → Type 0
 MembersHold Q t f c no_members = Unit {0}
@@ -39,6 +40,7 @@ ClassesHold C t f (and_item xs x) = ClassesHold C t f xs × ClassHolds C t f x
 module _ (Q R : Option ℕ → Name → Option Head → Type 0) (t : Table) (f : ℕ) (goes : (c : Option ℕ) (n : Name) (h : Option Head) → Q c n h → R c n h) where
   pub fun_goes : (c : Option ℕ) (g : Fun) → FunHolds Q t f c g → FunHolds R t f c g
   fun_goes c (tree.fun l s result n ps body) so = goes c n (head_of t f (tree.fun l s result n ps body)) so
+  fun_goes c (tree.constructor l ps body) so = tt
 
   pub members_go : (c : ℕ) (ms : Members) → MembersHold Q t f c ms → MembersHold R t f c ms
   members_go c no_members so = tt
@@ -60,6 +62,7 @@ module _ (t u : Table) (f : ℕ) (same : SameClasses t u) where
   module _ (Q : Option ℕ → Name → Option Head → Type 0) where
     fun_keeps : (c : Option ℕ) (g : Fun) → FunHolds Q t f c g → FunHolds Q u f c g
     fun_keeps c (tree.fun l s result n ps body) so = subst (Q c n) (sym (head_same t u same f (tree.fun l s result n ps body))) so
+    fun_keeps c (tree.constructor l ps body) so = tt
 
     members_keep : (c : ℕ) (ms : Members) → MembersHold Q t f c ms → MembersHold Q u f c ms
     members_keep c no_members so = tt

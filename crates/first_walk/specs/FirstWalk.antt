@@ -262,6 +262,11 @@ abbrev pub enter_constructor_head : Table → (file at class : ℕ) → Option H
 enter_constructor_head t f l c None = wrong f l Mismatch
 enter_constructor_head t f l c (Some h) = gives (with_constructor t c h)
 
+abbrev pub enter_constructor : Table → (file at class : ℕ) → Option Head → Answer Table
+enter_constructor t f l c h =
+    if is_some (class_of t c).constructor then wrong f l Duplicate
+    else enter_constructor_head t f l c h
+
 abbrev pub enter_method : Table → (file class : ℕ) → Fun → Answer Table
 enter_method t f c (fun l s result n ps body) =
     if has_unknown t f (fun l s result n ps body) then wrong f l UnknownName
@@ -269,8 +274,7 @@ enter_method t f c (fun l s result n ps body) =
     else enter_method_head t f l c n (head_of t f (fun l s result n ps body))
 enter_method t f c (constructor l ps body) =
     if has_unknown t f (constructor l ps body) then wrong f l UnknownName
-    else if is_some (class_of t c).constructor then wrong f l Duplicate
-    else enter_constructor_head t f l c (head_of t f (constructor l ps body))
+    else enter_constructor t f l c (head_of t f (constructor l ps body))
 
 abbrev pub with_fun : Table → (file : ℕ) → Name → Head → Table
 with_fun t f n h =
@@ -343,14 +347,14 @@ enter_of_kind t f l (Some c) h n (Some k) =
     then gives (with_static t c n k) else wrong f l BadPlace
 
 -- what makes an object with arguments has no `@`
-abbrev pub is_misplaced : DeclHead → Declr → Bool
-is_misplaced h (declr n bs) = false
-is_misplaced h (declr_with n es) = h.is_reference
+abbrev pub is_misplaced : DeclHead → Declr → Option Kind → Bool
+is_misplaced h (declr n bs) k = false
+is_misplaced h (declr_with n es) k = h.is_reference && is_some k
 
 abbrev pub enter_written : Table → (file at : ℕ) → (class : Option ℕ) → DeclHead → Declr →
     Option Kind → Answer Table
 enter_written t f l owner h x k =
-    if is_misplaced h x && is_some k then wrong f l BadPlace
+    if is_misplaced h x k then wrong f l BadPlace
     else enter_of_kind t f l owner h (declr_name x) k
 
 -- a variable with `auto` has no type yet; that a class can't have one is found in the second walk
