@@ -52,9 +52,14 @@ view_denoted (denoted.Target x) = m.at x.spot (exprs_of x.address) x.kind
 view_denoted (denoted.Callable c) = m.callable (view_callee c)
 view_denoted (denoted.Named b) = m.a_type b
 view_denoted (denoted.Declared d) = m.declared (view_declaration d)
+view_denoted (denoted.Auto n has_form) = m.an_auto n has_form
 
 abbrev pub meant : Denoted → Scope → Meant
 meant m s = record { means = view_denoted m; scope = s }
+
+-- a value, and the scope behind it
+abbrev pub value_meant : TypedValue → Scope → Meant
+value_meant x s = record { means = view_value x; scope = s }
 
 abbrev pub valued : TypedValue → Scope → Valued
 valued x s = record { typed = view_typed x; scope = s }

@@ -78,6 +78,12 @@ pub enum Denoted {
     /// A class, or another name that every program has.
     Named(BuiltInName),
     Declared(Declaration),
+    /// A declaration with `auto`, which takes the type of what is assigned to it.
+    Auto {
+        name: Text,
+        /// Whether it is written with nothing but its name, and is no member of a class.
+        has_form: bool,
+    },
 }
 
 /// The value of what an expression at a line stands for.
@@ -104,6 +110,7 @@ pub fn as_value(
         }
         Denoted::Callable(_) => Err(scope.wrong(line, FaultKind::Mismatch)),
         Denoted::Named(_) => Err(scope.wrong(line, FaultKind::Mismatch)),
+        Denoted::Auto { .. } => Err(scope.wrong(line, FaultKind::BadPlace)),
         Denoted::Declared(declaration) => Ok(Typed {
             expr: declaration.alone,
             kind: declaration.target.kind,

@@ -1,22 +1,30 @@
 -- An expression leaves the scope as it was, but for new locals in its innermost level.
-use Rattle.std.proofs.Common.{◌≡◌, ℕ, suc, ◌+◌, ◌&&◌, not, List, [], ◌∷◌, length, Option, Some, None, refl, ap, ◌∙◌, arith}
+use Rattle.std.proofs.Common.{◌≡◌, ℕ, suc, ◌+◌, Bool, true, false, ◌&&◌, if◌then◌else◌, not, List, [], ◌∷◌, length, Option, Some, None, refl, ap, ◌∙◌, arith}
 use Rattle.ck_values.specs.declared.kind.Kind.{Kind}
+use Rattle.ck_syntax.specs.declared.declaration.Base.{Base}
 use Rattle.ck_syntax.specs.declared.declaration.DeclHead.{DeclHead}
+use Rattle.ck_syntax.specs.declared.operator.ChuckOp.{ChuckOp}
+use Rattle.ck_syntax.specs.declared.operator.ChuckOp.TheVariants as chuck_op
 use Rattle.ck_syntax.specs.Tree as tree
-use Rattle.ck_syntax.specs.Tree.{Name, Expr, expr_line, Exprs, no_exprs, and_expr, Brackets, no_brackets, and_empty, and_size, declr}
+use Rattle.ck_syntax.specs.Tree.{Name, Expr, expr_line, Exprs, no_exprs, and_expr, Brackets, no_brackets, and_empty, and_size, Declr, declr, declr_with, declr_name}
 use Rattle.std.specs.Prelude.{is_some}
+use Rattle.ck_typed.specs.declared.expr.Spot.TheVariants as spot
+use Rattle.ck_typed.specs.Tree as typed
 use Rattle.type_table.specs.Answer.{Answer, gives, refused, and_then, wrong}
-use Rattle.type_table.specs.declared.fault.FaultKind.TheVariants.{NotCallable}
+use Rattle.type_table.specs.declared.fault.FaultKind.TheVariants.{NotCallable, BadPlace}
 use Rattle.type_table.specs.declared.table.Variable.{Variable}
 use Rattle.type_table.specs.Table.{Table, variable_named}
-use Rattle.type_table.specs.Types.{named_by, is_unknown, declared_kind}
+use Rattle.type_rules.specs.Operators.{are_references}
+use Rattle.type_table.specs.declared.types.Named.{Named}
+use Rattle.type_table.specs.Types.{named_by, is_unknown, written_kind}
 use Rattle.check_scope.specs.Expressions as e
-use Rattle.check_scope.specs.Expressions.{Meant, Valued, AllValued, and_valued, in_scope, value_of, meaning, values, sizes}
+use Rattle.check_scope.specs.Expressions.{Making, with_sizes, with_arguments, Meant, Valued, AllValued, and_valued, in_scope, value_of, meaning, values, sizes}
+use Rattle.check_scope.specs.Denotations as means
 use Rattle.check_scope.specs.Denotations.{Typed, Denotation, as_value}
-use Rattle.check_scope.specs.Scope.{Scope, is_empty, is_declared, with_last, with_local, reach, declares_globals}
+use Rattle.check_scope.specs.Scope.{Scope, is_empty, is_declared, with_last, with_local, reach, settle, kind_now, declares_globals}
 use Rattle.expr_laws.proofs.Oks.{ok_if}
 use Rattle.expr_laws.proofs.Premises.{Ok, Grows}
-use Rattle.expr_laws.proofs.ScopeLaws.{grows_refl, grows_trans, reach_grows, with_local_grows}
+use Rattle.expr_laws.proofs.ScopeLaws.{grows_refl, grows_trans, reach_grows, settle_grows, with_local_grows}
 
 -- it grew, and stands in as many blocks as before
 abbrev pub Keeps : (before behind : Scope) → Type 0
@@ -99,25 +107,66 @@ after_all s (refused why) f keeps next = tt
 
 -- declarations ------------------------------------------------------------------------------------
 
-variable_keeps : (t : Table) (s : Scope) (l : ℕ) (h : DeclHead) (xs : List Typed) (v : Option Variable) → Ok (MeantKeeps s) (e.declared_variable s l h xs v)
-variable_keeps t s l h xs None = tt
-variable_keeps t s l h xs (Some v) = reach_keeps t s (v.index + 1)
+variable_keeps : (t : Table) (s : Scope) (l : ℕ) (h : DeclHead) (making : Making) (v : Option Variable) → Ok (MeantKeeps s) (e.declared_variable t s l h making v)
+variable_keeps t s l h making None = tt
+variable_keeps t s l h making (Some v) = in_scope_keeps s (reach s (v.index + 1)) _ (reach_keeps t s (v.index + 1))
 
-global_keeps : (t : Table) (s : Scope) (l : ℕ) (h : DeclHead) (n : Name) (xs : List Typed) (class : Option ℕ) → Ok (MeantKeeps s) (e.declared_global t s l h n xs class)
-global_keeps t s l h n xs None = variable_keeps t s l h xs (variable_named t s.file n)
-global_keeps t s l h n xs (Some c) = in_scope_keeps s s _ (keeps_refl s)
+global_keeps : (t : Table) (s : Scope) (l : ℕ) (h : DeclHead) (n : Name) (making : Making) (class : Option ℕ) → Ok (MeantKeeps s) (e.declared_global t s l h n making class)
+global_keeps t s l h n making None = variable_keeps t s l h making (variable_named t s.file n)
+global_keeps t s l h n making (Some c) = in_scope_keeps s s _ (keeps_refl s)
 
-declared_local_keeps : (t : Table) (s : Scope) (l : ℕ) (h : DeclHead) (n : Name) (xs : List Typed) (k : Option Kind) → Ok (MeantKeeps s) (e.declared_local s l h n xs k)
-declared_local_keeps t s l h n xs None = tt
-declared_local_keeps t s l h n xs (Some k) =
-    ok_if (MeantKeeps s) (not (e.sizes_are_ints xs)) _ _ (λ is. tt) (λ is. ok_if (MeantKeeps s) h.is_static _ _ (λ so. tt) (λ so. local_keeps t s n k))
+declared_local_keeps : (t : Table) (s : Scope) (l : ℕ) (h : DeclHead) (n : Name) (making : Making) (k : Option Kind) → Ok (MeantKeeps s) (e.declared_local t s l h n making k)
+declared_local_keeps t s l h n making None = tt
+declared_local_keeps t s l h n making (Some k) =
+    ok_if (MeantKeeps s) (not (e.sizes_are_ints making)) _ _ (λ is. tt) (λ is. go (e.declared_at t s l (spot.Local (length s.locals)) typed.no_exprs h.is_reference k making))
+  where
+    go : (a : Answer Denotation) → Ok (MeantKeeps s) (and_then a (λ m. if e.has_place h making then gives (record { means = m; scope = with_local s n k }) else wrong s.file l BadPlace))
+    go (gives m) = ok_if (MeantKeeps s) (e.has_place h making) _ _ (λ so. local_keeps t s n k) (λ so. tt)
+    go (refused why) = tt
 
-pub declaration_keeps : (t : Table) (s : Scope) (l : ℕ) (h : DeclHead) (n : Name) (bs : Brackets) (xs : List Typed) → Ok (MeantKeeps s) (e.declaration_meaning t s l h n bs xs)
-declaration_keeps t s l h n bs xs =
+declared_as_keeps : (t : Table) (s : Scope) (l : ℕ) (h : DeclHead) (x : Declr) (making : Making) (named : Named) → Ok (MeantKeeps s) (e.declared_as t s l h x making named)
+declared_as_keeps t s l h x making named =
     ok_if (MeantKeeps s) (declares_globals s) _ _
-    (λ is. ok_if (MeantKeeps s) (e.sizes_are_ints xs) _ _ (λ so. global_keeps t s l h n xs s.class) (λ so. tt))
-    (λ is. ok_if (MeantKeeps s) (is_unknown (named_by t s.file h.base)) _ _ (λ so. tt)
-    (λ so. ok_if (MeantKeeps s) (is_declared s n) _ _ (λ it. tt) (λ it. declared_local_keeps t s l h n xs (declared_kind h (named_by t s.file h.base) bs))))
+    (λ is. ok_if (MeantKeeps s) (e.sizes_are_ints making) _ _ (λ so. global_keeps t s l h (declr_name x) making s.class) (λ so. tt))
+    (λ is. ok_if (MeantKeeps s) (is_unknown named) _ _ (λ so. tt)
+    (λ so. ok_if (MeantKeeps s) (is_declared s (declr_name x)) _ _ (λ it. tt) (λ it. declared_local_keeps t s l h (declr_name x) making (written_kind h named x))))
+
+declared_with_keeps : (t : Table) (s : Scope) (l : ℕ) (h : DeclHead) (x : Declr) (making : Making) (base : Option Base) → Ok (MeantKeeps s) (e.declared_with t s l h x making base)
+declared_with_keeps t s l h x making None = ok_if (MeantKeeps s) (not (declares_globals s) && is_declared s (declr_name x)) _ _ (λ is. tt) (λ is. keeps_refl s)
+declared_with_keeps t s l h x making (Some base) = declared_as_keeps t s l h x making (named_by t s.file base)
+
+pub declaration_keeps : (t : Table) (s : Scope) (l : ℕ) (h : DeclHead) (x : Declr) (making : Making) → Ok (MeantKeeps s) (e.declaration_meaning t s l h x making)
+declaration_keeps t s l h x making = declared_with_keeps t s l h x making h.base
+
+-- a value to a declaration with `auto` ------------------------------------------------------------
+
+settle_keeps : (t : Table) (s : Scope) (i : ℕ) (k : Kind) → Keeps s (settle s i k)
+settle_keeps t s i k = (settle_grows t s i k, refl)
+
+auto_variable_keeps : (t : Table) (s : Scope) (l k : ℕ) (x : Typed) (v : Option Variable) → Ok (MeantKeeps s) (e.auto_variable s l k x v)
+auto_variable_keeps t s l k x None = tt
+auto_variable_keeps t s l k x (Some v) = ok_if (MeantKeeps s) (means.is_void (kind_now s v)) _ _ (λ is. settle_keeps t s v.index x.kind) (λ is. tt)
+
+auto_assigned_keeps : (t : Table) (s : Scope) (l k : ℕ) (r : Bool) (x : Typed) (n : Name) (has_form : Bool) → Ok (MeantKeeps s) (e.auto_assigned t s l k r x n has_form)
+auto_assigned_keeps t s l k r x n has_form =
+    ok_if (MeantKeeps s) (e.is_no_type x.kind) _ _ (λ is. tt)
+    (λ is. ok_if (MeantKeeps s) (not has_form) _ _ (λ so. tt)
+    (λ so. ok_if (MeantKeeps s) (not r && are_references x.kind) _ _ (λ it. tt)
+    (λ it. ok_if (MeantKeeps s) (declares_globals s) _ _ (λ global. auto_variable_keeps t s l k x (variable_named t s.file n))
+    (λ local. ok_if (MeantKeeps s) (is_declared s n) _ _ (λ taken. tt) (λ free. local_keeps t s n x.kind)))))
+
+pub auto_keeps : (t : Table) (s : Scope) (l k : ℕ) (o : ChuckOp) (x : Typed) (n : Name) (has_form : Bool) → Ok (MeantKeeps s) (e.auto_chucked t s l k o x n has_form)
+auto_keeps t s l k chuck_op.Chuck x n has_form = auto_assigned_keeps t s l k false x n has_form
+auto_keeps t s l k chuck_op.Assign x n has_form = auto_assigned_keeps t s l k true x n has_form
+auto_keeps t s l k _ x n has_form = tt
+
+chucked_keeps : (t : Table) (s : Scope) (l : ℕ) (o : ChuckOp) (x : Typed) (b : Expr) (m : Denotation) → Ok (MeantKeeps s) (e.chucked t s l o x b m)
+chucked_keeps t s l o x b (means.an_auto n has_form) = auto_keeps t s l (expr_line b) o x n has_form
+chucked_keeps t s l o x b (means.value y) = in_scope_keeps s s _ (keeps_refl s)
+chucked_keeps t s l o x b (means.at spot address k) = in_scope_keeps s s _ (keeps_refl s)
+chucked_keeps t s l o x b (means.callable c) = in_scope_keeps s s _ (keeps_refl s)
+chucked_keeps t s l o x b (means.a_type c) = in_scope_keeps s s _ (keeps_refl s)
+chucked_keeps t s l o x b (means.declared d) = in_scope_keeps s s _ (keeps_refl s)
 
 -- all expressions ---------------------------------------------------------------------------------
 
@@ -154,6 +203,7 @@ module _ (t : Table) where
         after_value x.scope _ _ (value_keeps x.scope (expr_line d) _ (meaning_keeps x.scope d)) (λ y. in_scope_keeps y.scope y.scope _ (keeps_refl y.scope)))
     meaning_keeps s (tree.prefix l o x) = after s _ _ (meaning_keeps s x) (λ m. in_scope_keeps m.scope m.scope _ (keeps_refl m.scope))
     meaning_keeps s (tree.new l b xs) = after_all s _ _ (values_keep s xs) (λ ys. in_scope_keeps ys.scope ys.scope _ (keeps_refl ys.scope))
+    meaning_keeps s (tree.new_with l b xs) = after_all s _ _ (values_keep s xs) (λ ys. in_scope_keeps ys.scope ys.scope _ (keeps_refl ys.scope))
     meaning_keeps s (tree.spork l (tree.call k f xs)) =
         after s _ _ (meaning_keeps s f) (λ m. after_all m.scope _ _ (values_keep m.scope xs) (λ ys. in_scope_keeps ys.scope ys.scope _ (keeps_refl ys.scope)))
     meaning_keeps s (tree.spork l x) = after_value s (value_of (expr_line x) (meaning t s x)) (λ y. wrong s.file l NotCallable) (value_keeps s (expr_line x) (meaning t s x) (meaning_keeps s x)) (λ y. tt)
@@ -165,10 +215,11 @@ module _ (t : Table) where
         after_value s _ _ (value_keeps s (expr_line c) _ (meaning_keeps s c)) (λ x.
         after_value x.scope _ _ (value_keeps x.scope (expr_line a) _ (meaning_keeps x.scope a)) (λ y.
         after_value y.scope _ _ (value_keeps y.scope (expr_line b) _ (meaning_keeps y.scope b)) (λ z. in_scope_keeps z.scope z.scope _ (keeps_refl z.scope))))
-    meaning_keeps s (tree.declare l h (declr n bs)) = after_all s _ _ (sizes_keep s bs) (λ xs. declaration_keeps t xs.scope l h n bs xs.typed)
+    meaning_keeps s (tree.declare l h (declr n bs)) = after_all s _ _ (sizes_keep s bs) (λ xs. declaration_keeps t xs.scope l h (declr n bs) (with_sizes xs.typed))
+    meaning_keeps s (tree.declare l h (declr_with n es)) = after_all s _ _ (values_keep s es) (λ xs. declaration_keeps t xs.scope l h (declr_with n es) (with_arguments xs.typed))
     meaning_keeps s (tree.chuck l a o b) =
         after_value s _ _ (value_keeps s (expr_line a) _ (meaning_keeps s a)) (λ x.
-        after x.scope _ _ (meaning_keeps x.scope b) (λ m. in_scope_keeps m.scope m.scope _ (keeps_refl m.scope)))
+        after x.scope _ _ (meaning_keeps x.scope b) (λ m. chucked_keeps t m.scope l o x.typed b m.means))
 
     pub values_keep : (s : Scope) (xs : Exprs) → Ok (AllKeep s) (values t s xs)
     values_keep s no_exprs = keeps_refl s

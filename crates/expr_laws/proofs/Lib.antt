@@ -10,8 +10,10 @@ pub mod Growing
 pub mod FineNames
 pub mod FineMembers
 pub mod FineCalls
+pub mod FineMaking
 pub mod FineDeclarations
 pub mod FineChuck
+pub mod FineAutos
 pub mod FineMeanings
 pub mod Results
 pub mod NameFiles
