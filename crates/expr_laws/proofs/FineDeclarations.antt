@@ -41,7 +41,7 @@ use Rattle.expr_laws.proofs.FineValues.{int_valued}
 abbrev pub HasSizes : Brackets → AllValued → Type 0
 HasSizes bs xs = length xs.typed ≡ sized bs
 
-anything : {A : Type 0} (a : Answer A) → Ok (λ x. Unit {0}) a
+pub anything : {A : Type 0} (a : Answer A) → Ok (λ x. Unit {0}) a
 anything (gives x) = tt
 anything (refused why) = tt
 
@@ -85,7 +85,7 @@ formed r (Row e) making is = refl
 formed r (Grid e) making is = refl
 
 -- what holds of an answer whatever is so holds of it for all of that
-ok_all : {A X : Type 0} (R : X → Type 0) (P : X → A → Type 0) (a : Answer A) → ((x : X) → R x → Ok (P x) a) → Ok (λ v. (x : X) → R x → P x v) a
+pub ok_all : {A X : Type 0} (R : X → Type 0) (P : X → A → Type 0) (a : Answer A) → ((x : X) → R x → Ok (P x) a) → Ok (λ v. (x : X) → R x → P x v) a
 ok_all R P (gives v) is = is
 ok_all R P (refused why) is = tt
 

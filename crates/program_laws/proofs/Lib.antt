@@ -1,3 +1,4 @@
+pub mod FineItems
 pub mod FineStatements
 pub mod StatementsGrow
 pub mod Parallel

@@ -15,13 +15,15 @@ use Rattle.type_table.specs.Table.{Table}
 use Rattle.program_laws.specs.declared.surroundings.Surroundings.{Surroundings}
 use Rattle.check_scope.specs.Expressions as e
 use Rattle.check_scope.specs.Expressions.{Valued, AllValued, typing, values, is_int, meaning}
-use Rattle.check_scope.specs.Scope.{Scope, is_empty, with_block, without_block}
+use Rattle.check_scope.specs.Denotations.{is_void}
+use Rattle.check_scope.specs.Scope.{Scope, is_empty, with_local, with_block, without_block}
 use Rattle.program_laws.specs.Statements.{Stated, AllStated, int_at, condition, simple, declarations}
-use Rattle.program_laws.specs.Statements.{is_void, printed, in_loop_only, returned, bare_return}
+use Rattle.program_laws.specs.Statements.{printed, in_loop_only, returned, bare_return}
 use Rattle.program_laws.specs.Statements.{return_meaning, Tested, tested, for_test, for_step, looped}
-use Rattle.program_laws.specs.Statements.{closed, statement, statements}
-use Rattle.expr_laws.proofs.Growing.{Keeps, keeps_refl, keeps_trans, value_keeps, meaning_keeps}
-use Rattle.expr_laws.proofs.Growing.{values_keep}
+use Rattle.program_laws.specs.Statements.{item_kind, local_item, closed, statement, statements}
+use Rattle.expr_laws.proofs.Growing.{Keeps, keeps_refl, keeps_trans, local_keeps, value_keeps}
+use Rattle.expr_laws.proofs.Growing.{meaning_keeps, values_keep}
+use Rattle.expr_laws.proofs.FineDeclarations.{anything}
 use Rattle.expr_laws.proofs.Oks.{ok_then, ok_if, ok_map}
 use Rattle.expr_laws.proofs.Premises.{Ok, Grows}
 use Rattle.program_laws.proofs.FineStatements.{block_keeps}
@@ -200,6 +202,20 @@ module _ (t : Table) where
         (keeps_trans (with_block s) start.scope body.scope first
         (keeps_trans start.scope test.scope body.scope second
         (keeps_trans test.scope step.scope body.scope third last)))))))
+    statement_keeps o s (tree.for_each l h n brackets a b) =
+        ok_then (λ y. Keeps (with_block s) (valued y)) (λ z. Keeps s (behind z))
+        (typing t (with_block s) a) _ (typing_keeps (with_block s) a) (λ x first.
+        ok_then (λ k. Unit {0}) (λ z. Keeps s (behind z))
+        (local_item t x.scope l h n brackets (item_kind x.typed.kind) h.base) _
+        (anything (local_item t x.scope l h n brackets (item_kind x.typed.kind) h.base)) (λ k _.
+        let u = with_local x.scope n k in
+        ok_then (λ y. Keeps u (behind y)) (λ z. Keeps s (behind z))
+        (closed (statement t (looped o) (with_block u) b)) _
+        (closed_keeps u (statement t (looped o) (with_block u) b)
+        (statement_keeps (looped o) (with_block u) b)) (λ y last.
+        block_keeps t s y.scope
+        (keeps_trans (with_block s) x.scope y.scope first
+        (keeps_trans x.scope u y.scope (local_keeps t x.scope n k) last)))))
     statement_keeps o s (tree.repeat l c a) =
         after valued behind s (condition t s l c) _ (condition_keeps s l c) (λ x.
         in_block behind x.scope (statement t (looped o) (with_block x.scope) a) _
