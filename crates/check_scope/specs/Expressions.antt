@@ -404,9 +404,15 @@ auto_variable s l k x (Some v) =
     if is_void (kind_now s v) then assigned_to (spot.Static v.index) x l (settle s v.index x.kind)
     else wrong s.file k Duplicate
 
+-- a class has no such member
+abbrev pub auto_global : Table → Scope → (line auto_line : ℕ) → Typed → Name → Option ℕ →
+    Answer Meant
+auto_global t s l k x n None = auto_variable s l k x (variable_named t s.file n)
+auto_global t s l k x n (Some c) = wrong s.file k BadPlace
+
 abbrev pub auto_declared : Table → Scope → (line auto_line : ℕ) → Typed → Name → Answer Meant
 auto_declared t s l k x n =
-    if declares_globals s then auto_variable s l k x (variable_named t s.file n)
+    if declares_globals s then auto_global t s l k x n s.class
     else if is_declared s n then wrong s.file k Duplicate
     else assigned_to (spot.Local (length s.locals)) x l (with_local s n x.kind)
 

@@ -136,3 +136,7 @@ is_top s = not (is_some s.class) && not (is_some s.fun)
 -- in no block
 abbrev pub declares_globals : Scope → Bool
 declares_globals s = not (is_some s.fun) && is_empty s.blocks
+
+-- only what declares file variables settles any
+abbrev pub settles : Scope → Bool
+settles s = declares_globals s && not (is_some s.class)

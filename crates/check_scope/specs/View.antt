@@ -9,8 +9,10 @@ use Rattle.check_scope.specs.declared.denoted.Callee.TheVariants as callee
 use Rattle.check_scope.specs.declared.denoted.Declaration.{Declaration as Declared}
 use Rattle.check_scope.specs.declared.denoted.Denoted.{Denoted}
 use Rattle.check_scope.specs.declared.denoted.Denoted.TheVariants as denoted
+use Rattle.check_scope.specs.declared.denoted.Making.{Making as Makes}
+use Rattle.check_scope.specs.declared.denoted.Making.TheVariants as makes
 use Rattle.check_scope.specs.declared.typed.Typed.{Typed as TypedValue}
-use Rattle.check_scope.specs.Expressions.{Meant, Valued, AllValued}
+use Rattle.check_scope.specs.Expressions.{Making, with_sizes, with_arguments, Meant, Valued, AllValued}
 use Rattle.check_scope.specs.Denotations as m
 use Rattle.check_scope.specs.Denotations.{Typed, Callee, Declaration, Denotation}
 use Rattle.check_scope.specs.Scope.{Scope}
@@ -25,6 +27,11 @@ view_value x = m.value (view_typed x)
 abbrev pub all_typed : List TypedValue → List Typed
 all_typed [] = []
 all_typed (x ∷ xs) = view_typed x ∷ all_typed xs
+
+-- what a first value is made of
+abbrev pub view_making : Makes → Making
+view_making (makes.Sizes xs) = with_sizes (all_typed xs)
+view_making (makes.Arguments xs) = with_arguments (all_typed xs)
 
 abbrev pub view_callee : Callable → Callee
 view_callee (callee.Numbered f) = m.numbered f

@@ -69,6 +69,15 @@ pub struct Declaration {
     pub makes: bool,
 }
 
+/// What a declaration makes its first value of.
+#[derive(Drop)]
+pub enum Making {
+    /// The sizes in its brackets.
+    Sizes(List<Typed>),
+    /// The arguments of a constructor.
+    Arguments(List<Typed>),
+}
+
 /// What an expression stands for.
 #[derive(Drop)]
 pub enum Denoted {

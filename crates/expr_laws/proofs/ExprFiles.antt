@@ -384,13 +384,19 @@ module _ (files f : ℕ) (known : f < files) where
         placed_if M f (is_void (kind_now s v)) _ _
         (assigned_to_in (spot.Static v.index) x l (settle s v.index x.kind) here lies) here
 
+    auto_global_in : (s : Scope) (l k : ℕ) (x : Typed) (n : Name) (class : Option ℕ) → s.file ≡ f
+        → TypedLies files x → Placed M f (e.auto_global t s l k x n class)
+    auto_global_in s l k x n None here lies =
+        auto_variable_in s l k x (variable_named t s.file n) here lies
+    auto_global_in s l k x n (Some c) here lies = here
+
     auto_assigned_in : (s : Scope) (l k : ℕ) (r : Bool) (x : Typed) (n : Name) (has_form : Bool)
         → s.file ≡ f → TypedLies files x → Placed M f (e.auto_assigned t s l k r x n has_form)
     auto_assigned_in s l k r x n has_form here lies =
         placed_if M f (e.is_no_type x.kind) _ _ here (placed_if M f (not has_form) _ _ here
         (placed_if M f (not r && are_references x.kind) _ _ here
         (placed_if M f (declares_globals s) _ _
-        (auto_variable_in s l k x (variable_named t s.file n) here lies)
+        (auto_global_in s l k x n s.class here lies)
         (placed_if M f (is_declared s n) _ _ here
         (assigned_to_in (spot.Local (length s.locals)) x l (with_local s n x.kind) here lies)))))
 

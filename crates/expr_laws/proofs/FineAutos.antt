@@ -13,7 +13,7 @@ use Rattle.type_rules.specs.Operators.{are_references}
 use Rattle.type_table.specs.declared.table.Variable.{Variable}
 use Rattle.type_table.specs.Table.{Table, variable_named}
 use Rattle.type_table.proofs.Ranges.{Each, KindIn, ValueIn, many}
-use Rattle.check_scope.specs.Expressions.{assigned_to, auto_variable, auto_declared, is_no_type, auto_assigned, auto_chucked}
+use Rattle.check_scope.specs.Expressions.{assigned_to, auto_variable, auto_global, auto_declared, is_no_type, auto_assigned, auto_chucked}
 use Rattle.check_scope.specs.Denotations.{Typed, is_void}
 use Rattle.check_scope.specs.Scope.{Scope, settle, kind_now, place, is_declared, with_local, declares_globals}
 use Rattle.expr_laws.proofs.Oks.{ok_if}
@@ -58,9 +58,13 @@ module _ (p : Program) (t : Table) (has : Has p t) where
         (λ all ends. (each_last (HasSettled p t) s.settled (v.index, x.kind) ends.settled).0))
         (λ _. tt)
 
+    auto_global_is : (n : Name) (class : Option ℕ) → is_no_type x.kind ≡ false → Ok (IsMeant p t s) (auto_global t s l k x n class)
+    auto_global_is n None some = variable_settled (variable_named t s.file n) some
+    auto_global_is n (Some c) some = tt
+
     auto_declared_is : (n : Name) → is_no_type x.kind ≡ false → Ok (IsMeant p t s) (auto_declared t s l k x n)
     auto_declared_is n some =
-        ok_if (IsMeant p t s) (declares_globals s) _ _ (λ _. variable_settled (variable_named t s.file n) some) (λ _.
+        ok_if (IsMeant p t s) (declares_globals s) _ _ (λ _. auto_global_is n s.class some) (λ _.
         ok_if (IsMeant p t s) (is_declared s n) _ _ (λ _. tt) (λ _.
         assigned_to_is s (with_local s n x.kind) (spot.Local (length s.locals)) x l some is (with_local_is t s n x.kind scope) (with_local_grows t s n x.kind)
         (λ all value leads ends. local_ends p t s n x.kind all value leads ends)

@@ -21,14 +21,15 @@ use Rattle.check_scope.specs.Expressions as e
 use Rattle.check_scope.specs.Expressions.{Making, with_sizes, with_arguments, Meant, Valued, AllValued, and_valued, in_scope, value_of, meaning, values, sizes}
 use Rattle.check_scope.specs.Denotations as means
 use Rattle.check_scope.specs.Denotations.{Typed, Denotation, as_value}
-use Rattle.check_scope.specs.Scope.{Scope, is_empty, is_declared, with_last, with_local, reach, settle, kind_now, declares_globals}
+use Rattle.check_scope.specs.Scope.{Scope, is_empty, is_declared, with_last, with_local, reach, settle, kind_now, declares_globals, settles}
 use Rattle.expr_laws.proofs.Oks.{ok_if}
 use Rattle.expr_laws.proofs.Premises.{Ok, Grows}
 use Rattle.expr_laws.proofs.ScopeLaws.{grows_refl, grows_trans, reach_grows, settle_grows, with_local_grows}
 
--- it grew, and stands in as many blocks as before
+-- it grew, and stands in as many blocks as before; and where no file variables are declared none
+-- was settled
 abbrev pub Keeps : (before behind : Scope) → Type 0
-Keeps s u = Grows s u × (length u.blocks ≡ length s.blocks)
+Keeps s u = Grows s u × (length u.blocks ≡ length s.blocks) × (settles s ≡ false → u.settled ≡ s.settled)
 
 empty_by_length : {A : Type 0} (xs ys : List A) → length xs ≡ length ys → is_empty xs ≡ is_empty ys
 empty_by_length [] [] same = refl
@@ -40,11 +41,18 @@ empty_by_length (x ∷ xs) (y ∷ ys) same = refl
 pub same_globals : (s u : Scope) → Keeps s u → declares_globals u ≡ declares_globals s
 same_globals s u keeps = ap (λ f. not (is_some f) && is_empty u.blocks) keeps.0.fun ∙ ap (λ b. not (is_some s.fun) && b) (empty_by_length u.blocks s.blocks keeps.1)
 
+pub same_settles : (s u : Scope) → Keeps s u → settles u ≡ settles s
+same_settles s u keeps = ap (λ b. b && not (is_some u.class)) (same_globals s u keeps) ∙ ap (λ c. declares_globals s && not (is_some c)) keeps.0.class
+
 pub keeps_refl : (s : Scope) → Keeps s s
-keeps_refl s = (grows_refl s, refl)
+keeps_refl s = (grows_refl s, refl, λ none. refl)
 
 pub keeps_trans : (s u v : Scope) → Keeps s u → Keeps u v → Keeps s v
-keeps_trans s u v first second = (grows_trans s u v first.0 second.0, second.1 ∙ first.1)
+keeps_trans s u v first second = (
+  grows_trans s u v first.0 second.0,
+  second.1 ∙ first.1,
+  λ none. second.2 (same_settles s u first ∙ none) ∙ first.2 none,
+)
 
 last_length : (blocks : List (List (Name × ℕ))) (entry : Name × ℕ) → length (with_last blocks entry) ≡ length blocks
 last_length [] entry = refl
@@ -52,10 +60,10 @@ last_length (block ∷ []) entry = refl
 last_length (block ∷ next ∷ rest) entry = ap suc (last_length (next ∷ rest) entry)
 
 pub local_keeps : (t : Table) (s : Scope) (n : Name) (k : Kind) → Keeps s (with_local s n k)
-local_keeps t s n k = (with_local_grows t s n k, last_length s.blocks (n, length s.locals))
+local_keeps t s n k = (with_local_grows t s n k, last_length s.blocks (n, length s.locals), λ none. refl)
 
 reach_keeps : (t : Table) (s : Scope) (i : ℕ) → Keeps s (reach s i)
-reach_keeps t s i = (reach_grows t s i, refl)
+reach_keeps t s i = (reach_grows t s i, refl, λ none. refl)
 
 -- answers -----------------------------------------------------------------------------------------
 
@@ -140,19 +148,24 @@ declaration_keeps t s l h x making = declared_with_keeps t s l h x making h.base
 
 -- a value to a declaration with `auto` ------------------------------------------------------------
 
-settle_keeps : (t : Table) (s : Scope) (i : ℕ) (k : Kind) → Keeps s (settle s i k)
-settle_keeps t s i k = (settle_grows t s i k, refl)
+settle_keeps : (t : Table) (s : Scope) (i : ℕ) (k : Kind) → settles s ≡ true → Keeps s (settle s i k)
+settle_keeps t s i k is = (settle_grows t s i k, refl, λ none. absurd (cc (is, none)))
 
-auto_variable_keeps : (t : Table) (s : Scope) (l k : ℕ) (x : Typed) (v : Option Variable) → Ok (MeantKeeps s) (e.auto_variable s l k x v)
-auto_variable_keeps t s l k x None = tt
-auto_variable_keeps t s l k x (Some v) = ok_if (MeantKeeps s) (means.is_void (kind_now s v)) _ _ (λ is. settle_keeps t s v.index x.kind) (λ is. tt)
+auto_variable_keeps : (t : Table) (s : Scope) (l k : ℕ) (x : Typed) (v : Option Variable) → settles s ≡ true → Ok (MeantKeeps s) (e.auto_variable s l k x v)
+auto_variable_keeps t s l k x None here = tt
+auto_variable_keeps t s l k x (Some v) here = ok_if (MeantKeeps s) (means.is_void (kind_now s v)) _ _ (λ is. settle_keeps t s v.index x.kind here) (λ is. tt)
+
+auto_global_keeps : (t : Table) (s : Scope) (l k : ℕ) (x : Typed) (n : Name) (class : Option ℕ) → s.class ≡ class → declares_globals s ≡ true → Ok (MeantKeeps s) (e.auto_global t s l k x n class)
+auto_global_keeps t s l k x n None same global =
+    auto_variable_keeps t s l k x (variable_named t s.file n) (ap (λ b. b && not (is_some s.class)) global ∙ ap (λ c. not (is_some c)) same)
+auto_global_keeps t s l k x n (Some c) same global = tt
 
 auto_assigned_keeps : (t : Table) (s : Scope) (l k : ℕ) (r : Bool) (x : Typed) (n : Name) (has_form : Bool) → Ok (MeantKeeps s) (e.auto_assigned t s l k r x n has_form)
 auto_assigned_keeps t s l k r x n has_form =
     ok_if (MeantKeeps s) (e.is_no_type x.kind) _ _ (λ is. tt)
     (λ is. ok_if (MeantKeeps s) (not has_form) _ _ (λ so. tt)
     (λ so. ok_if (MeantKeeps s) (not r && are_references x.kind) _ _ (λ it. tt)
-    (λ it. ok_if (MeantKeeps s) (declares_globals s) _ _ (λ global. auto_variable_keeps t s l k x (variable_named t s.file n))
+    (λ it. ok_if (MeantKeeps s) (declares_globals s) _ _ (λ global. auto_global_keeps t s l k x n s.class refl global)
     (λ local. ok_if (MeantKeeps s) (is_declared s n) _ _ (λ taken. tt) (λ free. local_keeps t s n x.kind)))))
 
 pub auto_keeps : (t : Table) (s : Scope) (l k : ℕ) (o : ChuckOp) (x : Typed) (n : Name) (has_form : Bool) → Ok (MeantKeeps s) (e.auto_chucked t s l k o x n has_form)

@@ -29,7 +29,7 @@ use Rattle.check_scope.specs.Expressions.{value_of}
 use Rattle.check_scope.specs.Denotations.{Typed, is_void}
 use Rattle.ck_typed.specs.Standing.{given}
 use Rattle.check_scope.specs.Scope.{Scope, front, is_empty, place, with_block, without_block}
-use Rattle.check_scope.specs.Scope.{with_local, declares_globals}
+use Rattle.check_scope.specs.Scope.{with_local, declares_globals, settles}
 use Rattle.program_laws.specs.Statements.{Stated, AllStated, and_stated, in_order, block_of}
 use Rattle.program_laws.specs.Statements.{left, closed, int_at, condition, simple, declarations}
 use Rattle.program_laws.specs.Statements.{exprs, kinds, printed, in_loop_only, returned, bare_return}
@@ -66,12 +66,29 @@ one_block_less [] = refl
 one_block_less (x ∷ []) = refl
 one_block_less (x ∷ y ∷ rest) = ap suc (one_block_less (y ∷ rest)) ∙ omega arith
 
+not_empty : {X : Type 0} (xs : List X) (x : X) → is_empty (xs ++ x ∷ []) ≡ false
+not_empty [] x = refl
+not_empty (y ∷ ys) x = refl
+
+-- in a block nothing is a file variable or a member
+pub block_is_local : (s : Scope) → declares_globals (with_block s) ≡ false
+block_is_local s = go (not (is_some s.fun)) (is_empty (with_block s).blocks) (not_empty s.blocks [])
+  where
+    go : (a b : Bool) → b ≡ false → a && b ≡ false
+    go true b is = is
+    go false b is = refl
+
+-- so no file variable is settled there
+nothing_settles : (s : Scope) → settles (with_block s) ≡ false
+nothing_settles s = ap (λ b. b && not (is_some s.class)) (block_is_local s)
+
 -- a block that was opened and closed
 pub block_keeps : (t : Table) (s u : Scope) → Keeps (with_block s) u → Keeps s (without_block u)
 block_keeps t s u keeps = (
   grows_trans s (with_block s) (without_block u) (with_block_grows t s)
       (grows_trans (with_block s) u (without_block u) keeps.0 (without_block_grows t u)),
   omega (arith, one_block_less u.blocks, keeps.1, one_block_more s.blocks []),
+  λ none. keeps.2 (nothing_settles s),
 )
 
 -- and what is known of the scope goes on
@@ -84,18 +101,6 @@ block_follows p t s u follows = (
       (follows.1 all (record { locals = leads.locals; settled = leads.settled })
       (same_ends p t s (with_block s) all refl refl ends)),
 )
-
-not_empty : {X : Type 0} (xs : List X) (x : X) → is_empty (xs ++ x ∷ []) ≡ false
-not_empty [] x = refl
-not_empty (y ∷ ys) x = refl
-
--- in a block nothing is a file variable or a member
-pub block_is_local : (s : Scope) → declares_globals (with_block s) ≡ false
-block_is_local s = go (not (is_some s.fun)) (is_empty (with_block s).blocks) (not_empty s.blocks [])
-  where
-    go : (a b : Bool) → b ≡ false → a && b ≡ false
-    go true b is = is
-    go false b is = refl
 
 module _ (p : Program) (t : Table) where
   -- a statement, several, and a condition
