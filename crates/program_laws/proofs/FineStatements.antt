@@ -79,7 +79,7 @@ block_is_local s = go (not (is_some s.fun)) (is_empty (with_block s).blocks) (no
     go false b is = refl
 
 -- so no file variable is settled there
-nothing_settles : (s : Scope) → settles (with_block s) ≡ false
+pub nothing_settles : (s : Scope) → settles (with_block s) ≡ false
 nothing_settles s = ap (λ b. b && not (is_some s.class)) (block_is_local s)
 
 -- a block that was opened and closed
