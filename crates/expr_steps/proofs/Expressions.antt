@@ -329,10 +329,16 @@ module _ (n : ℕ) (t : Table) where
   auto_variable_costs s l k x None few = tt
   auto_variable_costs s l k x (Some v) few = ok_either (is_void (kind_now s v)) _ _ (omega arith) tt
 
+  auto_global_costs : (s : Scope) (l k : ℕ) (x : Typed) (name : Name) (c : Option ℕ)
+      → most x.expr + 4 ≤ n → Ok (MeantCosts n) (e.auto_global t s l k x name c)
+  auto_global_costs s l k x name None few =
+      auto_variable_costs s l k x (variable_named t s.file name) few
+  auto_global_costs s l k x name (Some c) few = tt
+
   auto_declared_costs : (s : Scope) (l k : ℕ) (x : Typed) (name : Name)
       → most x.expr + 4 ≤ n → Ok (MeantCosts n) (e.auto_declared t s l k x name)
   auto_declared_costs s l k x name few = ok_either (declares_globals s) _ _
-      (auto_variable_costs s l k x (variable_named t s.file name) few)
+      (auto_global_costs s l k x name s.class few)
       (ok_either (is_declared s name) _ _ tt (omega arith))
 
   auto_assigned_costs : (s : Scope) (l k : ℕ) (r : Bool) (x : Typed) (name : Name) (has_form : Bool)
