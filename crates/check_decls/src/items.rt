@@ -115,7 +115,10 @@ pub(crate) fn local_item(
 pub(crate) fn widens(array: Kind, local: Kind) -> bool
     ensures { result ≡ definition.widens array local }
 {
-    matches!((array, local), (Kind::Row(Elem::Int), Kind::One(Elem::Float)))
+    matches!(
+        (array, local),
+        (Kind::Row(Elem::Int), Kind::One(Elem::Float))
+    )
 }
 
 /// A loop over the items of an array, each of which stands in this local.

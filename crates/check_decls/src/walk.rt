@@ -327,7 +327,10 @@ pub(crate) fn items_typed(
         (λ w. typing.items table.now file items.now ≡ gives (view_walked w)) }
     ensures refused { IsRefused result (typing.items table.now file items.now) }
 {
-    let mut walked = Walked::begun(alloc, Scope::new(alloc, file, None, None, Settled::none(alloc)))?;
+    let mut walked = Walked::begun(
+        alloc,
+        Scope::new(alloc, file, None, None, Settled::none(alloc)),
+    )?;
     let mut class = first;
     for item in items {
         walked.add_item(alloc, table, file, class, item)?;

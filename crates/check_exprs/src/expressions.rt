@@ -17,12 +17,14 @@ use check_calls::{call_meaning, spork_meaning};
 use check_names::{declaration_meaning, name_meaning};
 use check_operations::{
     array_meaning, binary_meaning, cast_meaning, choice_meaning, dur_meaning, float, int,
-    item_meaning, new_meaning, new_with_meaning, postfix_meaning, prefix_meaning, text, unit, unit_in, word_meaning,
+    item_meaning, new_meaning, new_with_meaning, postfix_meaning, prefix_meaning, text, unit,
+    unit_in, word_meaning,
 };
 use check_scope::{Denoted, Making, Scope, Typed, as_value, boxed, push};
 use ck_base::{List, Text};
 use ck_syntax::{
-    Base, BinaryOp, Bracket, ChuckOp, DeclHead, Declarator, DeclaratorTail, Expr, ExprKind, TypeName,
+    Base, BinaryOp, Bracket, ChuckOp, DeclHead, Declarator, DeclaratorTail, Expr, ExprKind,
+    TypeName,
 };
 use std::alloc::Global;
 use type_table::{FaultKind, Table, TypeFault};

@@ -543,10 +543,7 @@ fn auto_meaning(
         return Err(scope.wrong(line, FaultKind::Duplicate));
     }
     let is_member = is_global && scope.class().is_some();
-    let has_form = !head.is_static
-        && !head.is_reference
-        && is_bare(&declarator.tail)
-        && !is_member;
+    let has_form = !head.is_static && !head.is_reference && is_bare(&declarator.tail) && !is_member;
     Ok(Denoted::Auto {
         name: declarator.name.try_clone(alloc)?,
         has_form,

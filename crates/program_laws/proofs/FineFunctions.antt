@@ -341,9 +341,11 @@ module _ (p : Program) (t : Table) (owners : List (Option ℕ)) (has : Has p t)
       → Numbered t first (member_entries t file c ms) → MembersDeclared t file c ms
       → Ok (IsRight (class_scope file c settled)) (members_typed t file c first settled ms)
   members_right c first settled no_members within heads numbered declared =
-      let begin : Scope = class_scope file c settled in
-      (none_are p t in_no_fun begin (class_scope_is t settled file c within), keeps_refl begin,
-      λ known. tt)
+      let begin : Scope = class_scope file c settled in (
+        none_are p t in_no_fun begin (class_scope_is t settled file c within),
+        keeps_refl begin,
+        λ known. tt,
+      )
   members_right c first settled (and_member ms (stmt_member x)) within heads numbered declared =
       let begin : Scope = class_scope file c settled in
       ok_then (IsRight begin) (IsRight begin) (members_typed t file c first settled ms)
@@ -438,9 +440,11 @@ module _ (p : Program) (t : Table) (owners : List (Option ℕ)) (has : Has p t)
   pub items_right : (raw : tree.File) → FileHasHeads t file raw
       → Numbered t ((file_of t file).main + 1) (items_entries t file raw) → FileDeclared t file raw
       → Ok (IsRight (file_scope file)) (items_typed t file raw)
-  items_right no_items heads numbered declared =
-      (none_are p t in_no_fun (file_scope file) (file_scope_is t file), keeps_refl (file_scope file),
-      λ known. tt)
+  items_right no_items heads numbered declared = (
+    none_are p t in_no_fun (file_scope file) (file_scope_is t file),
+    keeps_refl (file_scope file),
+    λ known. tt,
+  )
   items_right (and_item xs x) heads numbered declared =
       let es : List Entry = items_entries t file xs in
       let before : Numbered t ((file_of t file).main + 1) es =

@@ -72,12 +72,18 @@ module _ (p : Program) (t : Table) (has : Has p t) where
   -- an item that fits
   fit_binds : (a j k : Kind) → item_kind a ≡ Some j → KindIn (many t) a
       → kind_fits t.parents j k ≡ true → TakesItems a k
-  fit_binds (Row e) j k is within fit =
-      (One e, refl, row_binds e k within
-      (subst (λ i. kind_fits t.parents i k ≡ true) (sym (same_some (One e) j is)) fit))
-  fit_binds (Grid e) j k is within fit =
-      (Row e, refl, grid_binds e k
-      (subst (λ i. kind_fits t.parents i k ≡ true) (sym (same_some (Row e) j is)) fit))
+  fit_binds (Row e) j k is within fit = (
+    One e,
+    refl,
+    row_binds e k within
+        (subst (λ i. kind_fits t.parents i k ≡ true) (sym (same_some (One e) j is)) fit),
+  )
+  fit_binds (Grid e) j k is within fit = (
+    Row e,
+    refl,
+    grid_binds e k
+        (subst (λ i. kind_fits t.parents i k ≡ true) (sym (same_some (Row e) j is)) fit),
+  )
   fit_binds _ j k is within fit = absurd (cc)
 
   -- an item's own kind
