@@ -556,7 +556,7 @@ fn written_kind(head: &DeclHead, named: Named, declarator: &Declarator) -> Optio
 {
     match &declarator.tail {
         DeclaratorTail::Brackets(brackets) => declared_kind(head, named, brackets.items()),
-        DeclaratorTail::Arguments(_) => made_kind(head, named),
+        DeclaratorTail::Arguments(_) => made_kind(named),
     }
 }
 

@@ -18,7 +18,7 @@ use Rattle.type_table.specs.declared.types.Named.TheVariants as named
 use Rattle.first_walk.specs.FirstWalk.{and_kind, param_kind, param_kinds, head_with, head_of}
 use Rattle.type_table.specs.Names.{lookup, or_else, as_class, built_in, built_in_names}
 use Rattle.type_table.specs.Table.{Table, file_of, class_of, class_named, seen_from}
-use Rattle.type_table.specs.Types.{named_by, class_type, built_in_type, kind_of, is_plain, value_kind, result_kind, declared_kind, made_kind, written_kind, has_form, count}
+use Rattle.type_table.specs.Types.{named_by, class_type, built_in_type, kind_of, is_plain, value_kind, result_kind, declared_kind, made_kind, written_kind, has_form, can_be_made, count}
 use Rattle.type_table.proofs.Ranges.{Each, ElemIn, ValueIn, ResultIn, HeadIn}
 use Rattle.type_table.proofs.BuiltIns.{built_in_holds}
 use Rattle.type_table.proofs.ListFacts.{Holds, holds_map, holds_else, each_push, found_holds}
@@ -92,19 +92,19 @@ declared_in m h (named.Elem e) bs so = go (has_form h e bs)
     go false = tt
 declared_in m h _ bs so = tt
 
-made_in : (m : ℕ) (h : DeclHead) (n : Named) → NamedIn m n → Holds (ValueIn m) (made_kind h n)
-made_in m h (named.Elem e) so = go (is_reference e && has_form h e no_brackets)
+made_in : (m : ℕ) (n : Named) → NamedIn m n → Holds (ValueIn m) (made_kind n)
+made_in m (named.Elem e) so = go (is_reference e && can_be_made e no_brackets)
   where
     go : (b : Bool) → Holds (ValueIn m) (if b then Some (kind.One e) else None)
     go true = so
     go false = tt
-made_in m h named.Unknown so = tt
-made_in m h named.NoType so = tt
-made_in m h named.Void so = tt
+made_in m named.Unknown so = tt
+made_in m named.NoType so = tt
+made_in m named.Void so = tt
 
 pub written_in : (m : ℕ) (h : DeclHead) (n : Named) (x : Declr) → NamedIn m n → Holds (ValueIn m) (written_kind h n x)
 written_in m h n (declr name bs) so = declared_in m h n bs so
-written_in m h n (declr_with name es) so = made_in m h n so
+written_in m h n (declr_with name es) so = made_in m n so
 
 and_kind_in : (m : ℕ) (ks : Option (List Kind)) (k : Option Kind) → Holds (Each (ValueIn m)) ks → Holds (ValueIn m) k → Holds (Each (ValueIn m)) (and_kind ks k)
 and_kind_in m (Some ks) (Some k) all it = each_push (ValueIn m) ks k all it

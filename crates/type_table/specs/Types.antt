@@ -106,15 +106,15 @@ declared_kind h (named.Elem e) bs = if has_form h e bs then kind_of e (count bs)
 declared_kind h _ bs = None
 
 -- an object of this type is made with arguments
-abbrev pub made_kind : DeclHead → Named → Option Kind
-made_kind h (named.Elem e) =
-    if is_reference e && has_form h e no_brackets then Some (kind.One e) else None
-made_kind h _ = None
+abbrev pub made_kind : Named → Option Kind
+made_kind (named.Elem e) =
+    if is_reference e && can_be_made e no_brackets then Some (kind.One e) else None
+made_kind _ = None
 
 -- the type that a declaration gives its name by what stands behind that
 abbrev pub written_kind : DeclHead → Named → Declr → Option Kind
 written_kind h named (declr n bs) = declared_kind h named bs
-written_kind h named (declr_with n es) = made_kind h named
+written_kind h named (declr_with n es) = made_kind named
 
 -- a static member may have this type: a plain one, or another one with `@`
 abbrev pub may_be_static : DeclHead → Kind → Bool

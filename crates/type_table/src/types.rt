@@ -209,11 +209,11 @@ pub fn declared_kind(head: &DeclHead, named: Named, brackets: &[Bracket]) -> Opt
 }
 
 /// The type of an object that a declaration makes with arguments, where it is one.
-pub fn made_kind(head: &DeclHead, named: Named) -> Option<Kind>
-    ensures { result ≡ made_kind head.now named }
+pub fn made_kind(named: Named) -> Option<Kind>
+    ensures { result ≡ made_kind named }
 {
     match named {
-        Named::Elem(elem) if is_reference(elem) && has_form(head, elem, &[]) => {
+        Named::Elem(elem) if is_reference(elem) && can_be_made(elem, &[]) => {
             Some(Kind::One(elem))
         }
         _ => None,
