@@ -1,5 +1,8 @@
 -- Where an expression stands: its file, class and function, and the names declared around it.
-use Rattle.std.specs.Prelude.{ℕ, ◌+◌, nat_eq, Bool, true, false, ◌&&◌, not, List, [], ◌∷◌, ◌++◌, length, find, Option, Some, None, slice_get, max, if◌then◌else◌}
+use Rattle.std.specs.Prelude.{◌≡◌, ℕ, ◌+◌, nat_eq, Bool, true, false, ◌&&◌, not, List, [], ◌∷◌, ◌++◌, length, find, Option, Some, None, slice_get, max, if◌then◌else◌}
+use Rattle.std.specs.BTreeMap.{BTreeMap, IsOrdered, get}
+use Rattle.std.specs.Option.{option_map}
+use Rattle.std.specs.Ordering.{nat_cmp}
 use Rattle.ck_values.specs.declared.kind.Kind.{Kind}
 use Rattle.ck_values.specs.declared.kind.Kind.TheVariants.{Void}
 use Rattle.ck_values.specs.declared.trap.Place.{Place}
@@ -51,6 +54,11 @@ settled_or k (Some settled) = settled.1
 -- the first of this number
 abbrev pub settled_at : ℕ → List (ℕ × Kind) → Option (ℕ × Kind)
 settled_at i settled = find (λ one. nat_eq one.0 i) settled
+
+-- a map from numbers to their kinds has just these, in order of the numbers
+pub record AreFound (kinds : BTreeMap ℕ Kind) (settled : List (ℕ × Kind)) : Type 0 where
+  pub ordered : IsOrdered nat_cmp kinds
+  pub found : (i : ℕ) → get nat_cmp kinds i ≡ option_map (λ one. one.1) (settled_at i settled)
 
 abbrev pub kind_now : Scope → Variable → Kind
 kind_now s v = settled_or v.kind (settled_at v.index s.settled)

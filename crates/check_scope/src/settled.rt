@@ -6,13 +6,18 @@ ghost use Rattle.type_table.specs.declared.fault.TypeFault.TheVariants.{Memory a
 
 use ck_values::Kind;
 use std::alloc::Global;
+use std::collections::BTreeMap;
 use std::marker::Model;
 use type_table::TypeFault;
 
 /// The types that declarations with `auto` gave to file variables so far, by their numbers.
+///
+/// Contracts see them in the order in which they were settled; of one number the first counts.
 #[derive(Drop)]
 pub struct Settled {
     all: Vec<(u32, Kind)>,
+    /// The type of each number, so that a variable costs no search.
+    kinds: BTreeMap<u32, Kind>,
 }
 
 impl Model for Settled {
@@ -22,18 +27,10 @@ impl Model for Settled {
     ghost Value = { List (ℕ × Kind) };
 
     ghost view = { λ it. it.all.items };
-}
 
-/// The type that stands under this number; where none does, the other.
-fn kind_in(all: &[(u32, Kind)], index: u32, other: Kind) -> Kind
-    ensures { result ≡ settled_or other (settled_at index all.now) }
-{
-    for settled in all {
-        if settled.0 == index {
-            return settled.1;
-        }
-    }
-    other
+    ghost use Rattle.check_scope.specs.Scope.{AreFound};
+
+    ghost invariant = { λ it. AreFound it.kinds it.all.items };
 }
 
 impl Settled {
@@ -43,6 +40,7 @@ impl Settled {
     {
         Settled {
             all: Vec::new(alloc),
+            kinds: BTreeMap::new(alloc),
         }
     }
 
@@ -57,7 +55,10 @@ impl Settled {
     pub(crate) fn kind_or(&self, index: u32, other: Kind) -> Kind
         ensures { result ≡ settled_or other (settled_at index self.now) }
     {
-        kind_in(self.all.as_slice(), index, other)
+        match self.kinds.get(&index) {
+            Some(kind) => *kind,
+            None => other,
+        }
     }
 
     /// One more. Without memory for it nothing changes.
@@ -67,6 +68,13 @@ impl Settled {
         ensures memory { IfErr result (λ why. why ≡ memory out_of_memory) }
     {
         self.all.push((index, kind))?;
+        if self.kinds.contains_key(&index) {
+            return Ok(());
+        }
+        if let Err(failed) = self.kinds.insert(index, kind) {
+            self.all.pop();
+            return Err(TypeFault::Memory(failed.into()));
+        }
         Ok(())
     }
 }
