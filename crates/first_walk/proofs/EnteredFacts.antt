@@ -184,7 +184,7 @@ module _ (t : Table) (f : ℕ) (before : List (Option ℕ)) (is : IsTable t befo
       more = low_le;
       parents = parents_within;
       funs = funs_within;
-      statics = subst (λ l. Within l u.statics) base.statics so.grown;
+      statics = λ i k at some. get_within t.statics u.statics i k (subst (λ l. Within l u.statics) base.statics so.grown) at;
       classes = λ c lt. subst (λ k. SameClass k (class_of u c)) (base.old c lt) (so.older c lt);
     }
 

@@ -1,5 +1,7 @@
 -- What the table has after each file: the functions of the text in order, and what is right of each class.
 use Rattle.std.specs.Prelude.{◌≡◌, ℕ, ◌<◌, ◌≤◌, Bool, true, false, List, [], ◌∷◌, ◌++◌, length, map, Option, Some, None, slice_get}
+use Rattle.ck_values.specs.declared.kind.Kind.{Kind}
+use Rattle.ck_values.specs.declared.kind.Kind.TheVariants.{Void}
 use Rattle.ck_syntax.specs.Tree as tree
 use Rattle.ck_syntax.specs.Tree.{Name, Members, no_members, and_member, fun_member, stmt_member, no_items, and_item, class_item, fun_item, stmt_item}
 use Rattle.type_rules.specs.Fitting.{is_below}
@@ -151,12 +153,16 @@ pub record SameClass (a b : Class) : Type 0 where
   pub body : b.body ≡ a.body
   pub constructor_same : b.constructor ≡ a.constructor
 
--- more files were entered
+-- what has a kind keeps it; what is void may get one
+abbrev pub KindsStay : (before behind : List Kind) → Type 0
+KindsStay before behind = (i : ℕ) (k : Kind) → slice_get before i ≡ Some k → (k ≡ Void → ⊥) → slice_get behind i ≡ Some k
+
+-- more files were entered, or variables with `auto` got their kinds
 pub record IsLater (t u : Table) : Type 0 where
   pub more : many t ≤ many u
   pub parents : (c : ℕ) → c < many t → slice_get u.parents c ≡ slice_get t.parents c
   pub funs : Within t.funs u.funs
-  pub statics : Within t.statics u.statics
+  pub statics : KindsStay t.statics u.statics
   pub classes : (c : ℕ) → c < many t → SameClass (class_of t c) (class_of u c)
 
 -- what is named by a member -----------------------------------------------------------------------
