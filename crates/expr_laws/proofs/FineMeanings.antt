@@ -42,7 +42,7 @@ use Rattle.expr_laws.proofs.FineValues.{as_value_is, binary_is, prefix_is, postf
 module _ (p : Program) (t : Table) where
   -- a right scope that keeps what the one before was
   abbrev pub Follows : (before behind : Scope) → Type 0
-  Follows s u = Keeps s u × Carries p t s u
+  Follows s u = Keeps t s u × Carries p t s u
 
   pub follows_refl : (s : Scope) → Follows s s
   follows_refl s = (keeps_refl s, λ all leads ends. ends)
@@ -155,7 +155,7 @@ module _ (p : Program) (t : Table) (has : Has p t) where
       agreed_form p t has s h x making (named_by t s.file a) (named_in p t has s.file a) so (λ global k found. let it = known global in it.1 ∙ ap Some (agrees s (declr_name x) s.class k it.0 found it.2))
 
   -- a right result, and one that keeps the scope
-  with_keeps : (s : Scope) (a : Answer Meant) → Ok (IsMeant p t s) a → Ok (λ m. Keeps s m.scope) a → Ok (M p t s) a
+  with_keeps : (s : Scope) (a : Answer Meant) → Ok (IsMeant p t s) a → Ok (λ m. Keeps t s m.scope) a → Ok (M p t s) a
   with_keeps s (gives m) is keeps = ((is.0.0, (keeps, is.0.2)), is.1)
   with_keeps s (refused why) is keeps = tt
 

@@ -6,6 +6,7 @@ pub mod FineValues
 pub mod FineTypes
 pub mod FineForms
 pub mod ScopeLaws
+pub mod Settling
 pub mod Growing
 pub mod FineNames
 pub mod FineMembers

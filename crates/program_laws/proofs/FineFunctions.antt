@@ -187,9 +187,9 @@ module _ (p : Program) (t : Table) (has : Has p t) where
 module _ (p : Program) (t : Table) (owners : List (Option ℕ)) (has : Has p t)
     (is : IsTable t owners)
     (keep : (o : Surroundings) (s : Scope) (x : Stmt)
-    → Ok (λ (y : Stated). Keeps s y.scope) (statement t o s x))
+    → Ok (λ (y : Stated). Keeps t s y.scope) (statement t o s x))
     (keep_all : (o : Surroundings) (s : Scope) (xs : Stmts)
-    → Ok (λ (y : AllStated). Keeps s y.scope) (statements t o s xs))
+    → Ok (λ (y : AllStated). Keeps t s y.scope) (statements t o s xs))
     (statement_is : (o : Surroundings) (s : Scope) (x : Stmt) → IsScope t s
     → (declares_globals s ≡ true → StmtDeclared t s.file s.class x)
     → Ok (IsStated p t o s) (statement t o s x))
@@ -199,13 +199,13 @@ module _ (p : Program) (t : Table) (owners : List (Option ℕ)) (has : Has p t)
   grow : (o : Surroundings) (s : Scope) (x : Stmt)
       → Ok (λ (y : Stated). Grows s y.scope) (statement t o s x)
   grow o s x =
-      ok_map (λ (y : Stated). Keeps s y.scope) (λ (y : Stated). Grows s y.scope) (statement t o s x)
+      ok_map (λ (y : Stated). Keeps t s y.scope) (λ (y : Stated). Grows s y.scope) (statement t o s x)
       (λ y keeps. keeps.0) (keep o s x)
 
   grow_all : (o : Surroundings) (s : Scope) (xs : Stmts)
       → Ok (λ (y : AllStated). Grows s y.scope) (statements t o s xs)
   grow_all o s xs =
-      ok_map (λ (y : AllStated). Keeps s y.scope) (λ (y : AllStated). Grows s y.scope)
+      ok_map (λ (y : AllStated). Keeps t s y.scope) (λ (y : AllStated). Grows s y.scope)
       (statements t o s xs) (λ y keeps. keeps.0) (keep_all o s xs)
 
   -- a function is fine where what was settled before is known
@@ -217,10 +217,10 @@ module _ (p : Program) (t : Table) (owners : List (Option ℕ)) (has : Has p t)
   body_is_fine n l body u scope kinds =
       let o : Surroundings = in_fun (fun_of t n).result in
       let s : Scope = with_block u in
-      ok_then (λ y. AreStated p t o s y × Keeps s y.scope) (FineAfter u.settled)
+      ok_then (λ y. AreStated p t o s y × Keeps t s y.scope) (FineAfter u.settled)
       (statements t o s body)
       (λ all. gives (fun_made (length u.locals) (fun_of t n).result l all))
-      (ok_both (AreStated p t o s) (λ (y : AllStated). Keeps s y.scope) (statements t o s body)
+      (ok_both (AreStated p t o s) (λ (y : AllStated). Keeps t s y.scope) (statements t o s body)
       (statements_are o s body (block_is t u scope) (block_is_local u)) (keep_all o s body))
       (λ all are known.
       let settled : AreSettled p t has all.scope.settled =
@@ -289,7 +289,7 @@ module _ (p : Program) (t : Table) (owners : List (Option ℕ)) (has : Has p t)
   -- a walk so far is right
   abbrev pub IsRight : (begin : Scope) → Walked → Type 0
   IsRight begin w =
-      AreStated p t in_no_fun begin w.stated × Keeps begin w.stated.scope
+      AreStated p t in_no_fun begin w.stated × Keeps t begin w.stated.scope
       × (AreSettled p t has (settled_by w) → Each (IsFineFun p) w.funs)
 
   pub declared_in : (begin now : Scope) (x : Stmt) → Grows begin now
@@ -303,10 +303,10 @@ module _ (p : Program) (t : Table) (owners : List (Option ℕ)) (has : Has p t)
       → Ok (IsRight begin) (and_statement t w x)
   statement_right begin w x declared right =
       let u : Scope = w.stated.scope in
-      ok_then (λ y. IsStated p t in_no_fun u y × Keeps u y.scope) (IsRight begin)
+      ok_then (λ y. IsStated p t in_no_fun u y × Keeps t u y.scope) (IsRight begin)
       (statement t in_no_fun u x)
       (λ y. gives (record w { stated = and_stated w.stated y }))
-      (ok_both (IsStated p t in_no_fun u) (λ (y : Stated). Keeps u y.scope)
+      (ok_both (IsStated p t in_no_fun u) (λ (y : Stated). Keeps t u y.scope)
       (statement t in_no_fun u x)
       (statement_is in_no_fun u x right.0.0.0
       (λ _. declared_in begin u x right.0.0.1 declared)) (keep in_no_fun u x))

@@ -83,12 +83,13 @@ pub nothing_settles : (s : Scope) → settles (with_block s) ≡ false
 nothing_settles s = ap (λ b. b && not (is_some s.class)) (block_is_local s)
 
 -- a block that was opened and closed
-pub block_keeps : (t : Table) (s u : Scope) → Keeps (with_block s) u → Keeps s (without_block u)
+pub block_keeps : (t : Table) (s u : Scope) → Keeps t (with_block s) u → Keeps t s (without_block u)
 block_keeps t s u keeps = (
   grows_trans s (with_block s) (without_block u) (with_block_grows t s)
       (grows_trans (with_block s) u (without_block u) keeps.0 (without_block_grows t u)),
   omega (arith, one_block_less u.blocks, keeps.1, one_block_more s.blocks []),
   λ none. keeps.2 (nothing_settles s),
+  keeps.3,
 )
 
 -- and what is known of the scope goes on
