@@ -10,6 +10,7 @@ pub mod Found
 pub mod TableLaws
 pub mod BelowOf
 pub mod Known
+pub mod SettledTables
 pub mod FineClasses
 pub mod FileLaws
 pub mod WholeProgram
