@@ -5,6 +5,7 @@ pub mod Parallel
 pub mod FunctionScopes
 pub mod Matching
 pub mod FineFunctions
+pub mod FileSettles
 pub mod TypedFiles
 pub mod Found
 pub mod TableLaws

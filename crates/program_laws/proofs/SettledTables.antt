@@ -2,7 +2,8 @@
 use Rattle.std.proofs.Common.{◌≡◌, ℕ, ◌<◌, Bool, true, false, nat_eq, if◌then◌else◌, List, []}
 use Rattle.std.proofs.Common.{◌∷◌, ◌++◌, length, map, find, Option, Some, None, slice_get, slice_set}
 use Rattle.std.proofs.Common.{refl, sym, ap, ap₂, ◌∙◌, subst, arith, le_refl, length-set, eq-eqb}
-use Rattle.std.proofs.lemmas.Option.{slice_get_within}
+use Rattle.std.proofs.lemmas.Option.{slice_get_within, slice_get-map}
+use Rattle.std.specs.Option.{option_map}
 use Rattle.ck_values.specs.declared.kind.Kind.{Kind}
 use Rattle.ck_values.specs.declared.kind.Kind.TheVariants.{Void, Null, One, Row, Grid}
 use Rattle.ck_syntax.specs.Tree.{Name}
@@ -56,9 +57,11 @@ kinds_stay statics ((i, k) ∷ rest) settling j kind is some =
     (set_stays statics i k settling.0 j kind is some) some
 
 -- and each variable has in the end what was settled
+abbrev pub HasKind : List Kind → ℕ × Kind → Type 0
+HasKind statics one = (slice_get statics one.0 ≡ Some one.1) × (one.1 ≡ Void → ⊥)
+
 pub settled_kinds : (statics : List Kind) (settled : List (ℕ × Kind)) → Settling statics settled
-    → Each (λ (one : ℕ × Kind). (slice_get (settled_statics statics settled) one.0 ≡ Some one.1)
-    × (one.1 ≡ Void → ⊥)) settled
+    → Each (HasKind (settled_statics statics settled)) settled
 settled_kinds statics [] settling = tt
 settled_kinds statics ((i, k) ∷ rest) settling = (
   (
@@ -106,6 +109,33 @@ void_now statics ((j, other) ∷ rest) i k settling void =
           is.1,
         )
 
+-- in a program all have a kind: what has none stands as an int -----------------------------------
+
+pub given_kind : (k : Kind) → (k ≡ Void → ⊥) → given k ≡ k
+given_kind Void some = absurd (some refl)
+given_kind Null some = refl
+given_kind (One e) some = refl
+given_kind (Row e) some = refl
+given_kind (Grid e) some = refl
+
+pub given_stays : (statics more : List Kind) → KindsStay statics more
+    → KindsStay statics (map given more)
+given_stays statics more stay i k is some =
+    slice_get-map given more i ∙ ap (option_map given) (stay i k is some)
+    ∙ ap Some (given_kind k some)
+
+pub given_value : (n : ℕ) (k : Kind) → ResultIn n k → ValueIn n (given k)
+given_value n Void is = tt
+given_value n Null is = is
+given_value n (One e) is = is
+given_value n (Row e) is = is
+given_value n (Grid e) is = is
+
+pub given_values : (n : ℕ) (statics : List Kind) → Each (ResultIn n) statics
+    → Each (ValueIn n) (map given statics)
+given_values n [] are = tt
+given_values n (k ∷ statics) are = (given_value n k are.0, given_values n statics are.1)
+
 -- ranges ------------------------------------------------------------------------------------------
 
 pub settled_length : (statics : List Kind) (settled : List (ℕ × Kind))
@@ -144,12 +174,12 @@ module _ (t : Table) (owners : List (Option ℕ)) (table : IsTable t owners) whe
       now.0 ∙ there.1
       ∙ ap Some (sym (ap (λ (w : Variable). w.kind) number.1 ∙ ap kind_or_void there.1) ∙ now.1)
 
-  pub is_settling : {before settled : List (ℕ × Kind)} → Settles t before settled
+  pub file_settling : {before settled : List (ℕ × Kind)} → Settles t before settled
       → Settling t.statics before → Settling t.statics settled
-  is_settling as_before first = first
-  is_settling (one_more {so_far = so_far} file n v k before named void some) first =
-      settling_more t.statics so_far v.index k (is_settling before first)
-      (void_at so_far file n v (is_settling before first) named void) (some_kind k some)
+  file_settling as_before first = first
+  file_settling (one_more {so_far = so_far} file n v k before named void some) first =
+      settling_more t.statics so_far v.index k (file_settling before first)
+      (void_at so_far file n v (file_settling before first) named void) (some_kind k some)
 
   module _ (settled : List (ℕ × Kind)) (settling : Settling t.statics settled) where
     pub is_behind : IsLater t (with_settled t settled)

@@ -1,5 +1,5 @@
 -- The functions of a file that was entered are typed as its table says, and are well formed.
-use Rattle.std.proofs.Common.{◌≡◌, ℕ, List, ◌++◌, length, Option, false, true, refl, subst}
+use Rattle.std.proofs.Common.{◌≡◌, ℕ, List, [], ◌++◌, length, Option, false, true, refl, subst}
 use Rattle.ck_syntax.specs.Tree as tree
 use Rattle.ck_syntax.specs.Tree.{Stmt, Stmts}
 use Rattle.ck_typed.specs.Tree.{Program}
@@ -15,6 +15,8 @@ use Rattle.program_laws.specs.Statements.{statement, statements}
 use Rattle.ck_typed.specs.WellFormed.{IsFineFun}
 use Rattle.program_laws.proofs.FileLaws.{IsEnteredFile, IsTypedFile}
 use Rattle.program_laws.proofs.FineFunctions.{items_are_fine}
+use Rattle.expr_laws.proofs.Settling.{Settles}
+use Rattle.program_laws.proofs.FileSettles.{items_settle}
 use Rattle.program_laws.proofs.Matching.{FileHasHeads, items_match}
 use Rattle.expr_laws.proofs.Oks.{ok_map}
 use Rattle.program_laws.proofs.Parallel.{Zip, Matches}
@@ -52,6 +54,9 @@ typed_file t u owners file raw w is heads declared typed =
           (items_typed u file raw) w typed
           (items_match u (statement_grows u) (statements_grow u) file raw t.funs
           (length t.funs) refl is.funs is.main heads);
+      settles =
+          found (λ v. Settles u [] (settled_by v)) (items_typed u file raw) w typed
+          (items_settle u file raw);
       fine = λ p has. found (λ v. Each (IsSettled p) (settled_by v)
           → Each (IsFineFun p) (file_funs v) × Each (HasSettled p u) (settled_by v))
           (items_typed u file raw) w typed
