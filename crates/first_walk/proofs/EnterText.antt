@@ -200,15 +200,17 @@ module _ (b : Table) (low f : ℕ) (first : List (Option ℕ)) (ready : Ready b 
       constructor_text = tree.constructor l ps body
 
       abbrev ConstructorAfter : Table → Type 0
-      ConstructorAfter v = Went start (es ++ fun_entry b f (Some c) constructor_text ∷ []) v
+      ConstructorAfter v = Went start (es ++ fun_entry b f (Some c) constructor_text ∷ []) v × ((h : Head) × (head_of b f constructor_text ≡ Some h))
 
       constructor_head : (u : Table) → Went start es u → (o : Option Head)
           → head_of b f constructor_text ≡ o → Holds (HeadIn (many b)) o → GivesSuch ConstructorAfter (enter_constructor_head u f l c o)
       constructor_head u so None is range = tt
-      constructor_head u so (Some h) is range =
-          went start es (es ++ fun_entry b f (Some c) constructor_text ∷ []) u (with_constructor u c h) so
-          (subst (λ x. SoFar b low f first (es ++ (x, Some c) ∷ []) (with_constructor u c h) × Grows u (with_constructor u c h)) (sym (ap or_no_head is))
-          (constructor_step b low f first ready u es so.0 c own.0 own.1 h range))
+      constructor_head u so (Some h) is range = (
+        went start es (es ++ fun_entry b f (Some c) constructor_text ∷ []) u (with_constructor u c h) so
+            (subst (λ x. SoFar b low f first (es ++ (x, Some c) ∷ []) (with_constructor u c h) × Grows u (with_constructor u c h)) (sym (ap or_no_head is))
+            (constructor_step b low f first ready u es so.0 c own.0 own.1 h range)),
+        (h, is),
+      )
 
       constructor_went : (u : Table) → Went start es u → GivesSuch ConstructorAfter (enter_method u f c constructor_text)
       constructor_went u so =
@@ -285,12 +287,12 @@ module _ (b : Table) (low f : ℕ) (first : List (Option ℕ)) (ready : Ready b 
         text = tree.constructor l ps body
 
         After : Table → Type 0
-        After w = Went v ((es ++ member_entries b f c ms) ++ fun_entry b f (Some c) text ∷ []) w
+        After w = Went v ((es ++ member_entries b f c ms) ++ fun_entry b f (Some c) text ∷ []) w × ((h : Head) × (head_of b f text ≡ Some h))
 
         goes : (w : Table) → After w → MembersAfter (and_member ms (fun_member text)) w
         goes w x = (
-          (more_members ms (fun_entry b f (Some c) text) w x.0, grows_then start v w so.0.1 x.1),
-          (members_go (EnteredSoFar v f) (EnteredSoFar w f) b f (entered_grows f v w x.1) c ms so.1, tt),
+          (more_members ms (fun_entry b f (Some c) text) w x.0.0, grows_then start v w so.0.1 x.0.1),
+          (members_go (EnteredSoFar v f) (EnteredSoFar w f) b f (entered_grows f v w x.0.1) c ms so.1, x.1),
         )
     member_went ms (stmt_member s) v so =
         gives_map (Went v (es ++ member_entries b f c ms)) (MembersAfter (and_member ms (stmt_member s))) goes
