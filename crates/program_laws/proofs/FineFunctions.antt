@@ -1,7 +1,7 @@
 -- The functions of a file are fine, each where its statements are.
-use Rattle.std.proofs.Common.{◌≡◌, ℕ, zero, suc, ◌+◌, ◌<◌, ◌≤◌, Bool, true, false, not, ◌&&◌}
+use Rattle.std.proofs.Common.{◌≡◌, ℕ, zero, suc, ◌+◌, ◌<◌, ◌≤◌, Bool, true, false}
 use Rattle.std.proofs.Common.{if◌then◌else◌, List, [], ◌∷◌, ◌++◌, length, All, Option, Some, None}
-use Rattle.std.proofs.Common.{is_some, slice_get, refl, sym, ap, subst, ◌∙◌, append_assoc, append-nil}
+use Rattle.std.proofs.Common.{slice_get, refl, sym, ap, subst, ◌∙◌, append_assoc, append-nil}
 use Rattle.std.proofs.Common.{le_refl, le_trans, zero-le, length-append, arith}
 use Rattle.std.specs.Str.{bytes_eq}
 use Rattle.ck_values.specs.declared.kind.Kind.{Kind}
@@ -29,7 +29,7 @@ use Rattle.program_laws.specs.Programs.{and_member_typed, members_typed, class_f
 use Rattle.program_laws.specs.Programs.{class_typed, and_funs, and_item_typed, items_typed}
 use Rattle.program_laws.specs.Programs.{file_funs, settled_by}
 use Rattle.ck_typed.specs.Standing.{given}
-use Rattle.check_scope.specs.Scope.{Scope, new_scope, is_empty, with_block, declares_globals}
+use Rattle.check_scope.specs.Scope.{Scope, with_block, declares_globals}
 use Rattle.program_laws.specs.Statements.{Stated, AllStated, none_stated, and_stated, in_order}
 use Rattle.program_laws.specs.Statements.{statement, statements}
 use Rattle.ck_typed.specs.WellFormed.{IsValueKind, IsFine, AreFine, IsFineFun}

@@ -1,6 +1,6 @@
 -- The name of a `for` over an array: its kind is that of a value, and the items are bound to it.
 use Rattle.std.proofs.Common.{◌≡◌, ◌⊎◌, inl, inr, ℕ, Bool, true, false, ◌||◌, ◌&&◌, not, if◌then◌else◌}
-use Rattle.std.proofs.Common.{List, length, Option, Some, None, refl, sym, ap, subst}
+use Rattle.std.proofs.Common.{List, Option, Some, None, refl, sym, ap, subst}
 use Rattle.std.specs.Prelude.{nat_lt, slice_get}
 use Rattle.ck_values.specs.declared.kind.Elem.{Elem}
 use Rattle.ck_values.specs.declared.kind.Elem.TheVariants as elem

@@ -1,6 +1,6 @@
 -- The scopes that functions begin with: `this` where they take an object, and their parameters.
 use Rattle.std.proofs.Common.{◌≡◌, ℕ, zero, suc, ◌+◌, ◌<◌, ◌≤◌, Bool, true, false, not, List}
-use Rattle.std.proofs.Common.{if◌then◌else◌, [], ◌∷◌, ◌++◌, length, take, get_or, Option, Some}
+use Rattle.std.proofs.Common.{if◌then◌else◌, [], ◌∷◌, ◌++◌, length, take, Option, Some}
 use Rattle.std.proofs.Common.{None, slice_get, refl, sym, ap, subst, ◌∙◌, append_assoc, append-nil}
 use Rattle.std.proofs.Common.{lt-suc_self, arith}
 use Rattle.std.proofs.lemmas.List.{take_at, take_all, take_more, length_push}
@@ -15,8 +15,7 @@ use Rattle.type_table.specs.declared.fault.FaultKind.TheVariants.{Duplicate}
 use Rattle.first_walk.specs.FirstWalk.{param_kind, param_kinds}
 use Rattle.first_walk.proofs.KnownHeads.{kinds_of}
 use Rattle.type_table.specs.Table.{Table, fun_of}
-use Rattle.type_table.proofs.ListFacts.{each_at}
-use Rattle.type_table.proofs.Ranges.{Each, Within, ValueIn, many}
+use Rattle.type_table.proofs.Ranges.{Each, Within, many}
 use Rattle.first_walk.proofs.TableFacts.{owner}
 use Rattle.check_scope.specs.Scope.{Scope, new_scope, or_void, is_declared, with_block, with_last}
 use Rattle.check_scope.specs.Scope.{own_with, with_local, this_local}

@@ -1,7 +1,7 @@
 -- The table behind a file: variables with `auto` have got their kinds, and nothing else changed.
 use Rattle.std.proofs.Common.{◌≡◌, ℕ, ◌<◌, Bool, true, false, nat_eq, if◌then◌else◌, List, []}
-use Rattle.std.proofs.Common.{◌∷◌, ◌++◌, length, map, find, Option, Some, None, slice_get, slice_set}
-use Rattle.std.proofs.Common.{refl, sym, ap, ap₂, ◌∙◌, subst, arith, le_refl, length-set, eq-eqb}
+use Rattle.std.proofs.Common.{◌∷◌, ◌++◌, length, map, Option, Some, None, slice_get, slice_set}
+use Rattle.std.proofs.Common.{refl, sym, ap, ◌∙◌, subst, le_refl, length-set, eq-eqb}
 use Rattle.std.proofs.lemmas.Option.{slice_get_within, slice_get-map}
 use Rattle.std.specs.Option.{option_map}
 use Rattle.ck_values.specs.declared.kind.Kind.{Kind}
@@ -11,13 +11,12 @@ use Rattle.ck_typed.specs.Standing.{given}
 use Rattle.type_table.specs.declared.class.Dispatch.{Dispatch}
 use Rattle.type_table.specs.declared.class.Dispatch.TheVariants as by
 use Rattle.type_table.specs.declared.class.FileNames.{FileNames as File}
-use Rattle.type_table.specs.declared.class.Head.{Head}
 use Rattle.type_table.specs.declared.class.Own.{Own}
 use Rattle.type_table.specs.declared.class.Own.TheVariants as own
 use Rattle.type_table.specs.declared.table.Variable.{Variable}
 use Rattle.type_table.specs.Names.{lookup, or_else}
-use Rattle.type_table.specs.Table.{Table, class_of, fun_of, file_of, ancestors, overridden, kind_or_void}
-use Rattle.type_table.specs.Table.{settled_statics, with_settled, static_at, variable_named}
+use Rattle.type_table.specs.Table.{Table, class_of, file_of, ancestors, overridden, kind_or_void}
+use Rattle.type_table.specs.Table.{settled_statics, with_settled, variable_named}
 use Rattle.type_table.proofs.ListFacts.{get_set_same, get_set_other, each_set, each_map}
 use Rattle.type_table.proofs.Ranges.{Each, ValueIn, ResultIn, many}
 use Rattle.first_walk.proofs.TableFacts.{KindsStay, IsOwn, Owned, IsBodyOf, IsFileOf, IsClassOf}
