@@ -20,7 +20,7 @@ PAGE = os.path.join(TOP, "docs", "REFUSALS.md")
 ENTRY = re.compile(r"^## `([^`]+)`\n(.*?)(?=^## |\Z)", re.MULTILINE | re.DOTALL)
 PROGRAM = re.compile(r"^```(sh)?\n(.*?)^```$", re.MULTILINE | re.DOTALL)
 ANSWER = re.compile(r"^`([^`]+)`: (.*), status (\d)\.$", re.MULTILINE)
-REFUSAL = re.compile(r"^(?P<file>.*?)(?::(?P<line>\d+))?: (?P<name>too long|lex|syntax|too deep|type \w+)$")
+REFUSAL = re.compile(r"^(?P<file>.*?)(?::(?P<line>\d+))?: (?P<name>too long|lex|syntax|too deep|type \w+|not built)$")
 TRAP = re.compile(r"^(?P<name>trap \w+) shred \d+ sample -?\d+ (?P<file>.*):(?P<line>\d+)$")
 
 

@@ -28,7 +28,7 @@ OTHERS = LETTERS + "0123456789_"
 TAKEN = set(
     "if do me ms fun now int dur day dac for new else null NULL true false this time void samp "
     "hour week while until break class float spork repeat return static string public "
-    "second minute Std Math ADSR Echo Gain Step Event UGen Delay Noise Shred Big Low".split()
+    "second minute auto Std Math ADSR Echo Gain Step Event UGen Delay Noise Shred Big Low".split()
 )
 
 
@@ -198,6 +198,40 @@ def functions():
     return [filled(f"fun void {a}(){{{b}();}}\n" for a, b in zip(found, reversed(found)))]
 
 
+def autos():
+    """As many file variables with `auto` as there is room for."""
+    return [filled(f"1=>auto {name};" for name in names())]
+
+
+def autos_of_one():
+    """As many locals with `auto` of one function as there is room for."""
+    return [filled((f"1=>auto {name};" for name in names()), "fun void f(){", "}\n")]
+
+
+def constructions():
+    """The lowest class of a chain, of which the highest has the constructor, as often as there is
+    room for it."""
+    above, bottom = chain(lambda k: "" if k else "fun @construct(int n){}")
+    return [filled((f"{bottom} {name}(1);" for name in names()), above)]
+
+
+def arguments_of_one():
+    """A constructor with as many parameters as there is room for, and their arguments."""
+    parts = filled((f",int {name}" for name in names()), size=SIZE * 3 // 4)
+    head = "class Big{fun @construct(int _0" + parts + "){}}\nBig _1(1"
+    return [head + ",1" * parts.count(",") + ");\n"]
+
+
+def items():
+    """As many `for` over an array as there is room for."""
+    return [lines("int a[1];\n", "for(int x:a);")]
+
+
+def items_in_items():
+    """The same in one another, as deep as they may be."""
+    return [lines("int a[1];\n", "for(int x:a)" * DEPTH + ";\n")]
+
+
 def choices():
     """Choices in one another, as deep as they may be."""
     return [lines("int x;\n", "x?1:" * DEPTH + "2=>x;\n")]
@@ -286,6 +320,12 @@ TEXTS = [
     variables,
     locals_of_one,
     functions,
+    autos,
+    autos_of_one,
+    constructions,
+    arguments_of_one,
+    items,
+    items_in_items,
     choices,
     else_ifs,
     many_files,

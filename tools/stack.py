@@ -31,6 +31,7 @@ AROUND = """class C {
     fun int same(int x) { return x; }
     fun static int plain(int x) { return x; }
 }
+class P { int n; fun @construct(int x) { x => n; } }
 int a[300]; int x; float z; C c; c @=> c.next; Gain u;
 fun int f(int x) { return x; }
 fun int floor(float x) { return x $ int; }
@@ -105,6 +106,10 @@ FORMS = {
     "strings": lambda height: '("a"' + ' + "b"' * height + ").length()",
     "appends": lambda height: "(a" + " << 1" * height + ").size()",
     "new arrays": nested("(new int[", "1", "]).size()"),
+    "new objects with arguments": nested("(new P(", "1", ")).n"),
+    "declarations with arguments": lambda height: "".join(f"(P v{i}(" for i in range(height))
+    + "1"
+    + ")).n" * height,
     "sporks": nested("(spork ~ f(", "1", ")).id()"),
 }
 
@@ -137,6 +142,8 @@ TRIANGLES = {
     "assignments of references": triangle("(", "c", ")", " @=> c.next", 2),
     "declarations": triangle("(", "1", ")", " => int v{}"),
     "declarations of objects": triangle("(", "c", ")", " @=> C v{}"),
+    "declarations with auto": triangle("(", "1", ")", " => auto v{}"),
+    "declarations of objects with auto": triangle("(", "c", ")", " @=> auto v{}"),
     "updates": triangle("(", "1", ")", " +=> x"),
     "updates of a member": triangle("(", "1", ")", " +=> c.n", 2),
     "chucks to a function": triangle("(", "1", ")", " => f"),
@@ -150,6 +157,7 @@ TRIANGLES = {
     "waits": triangle("(", "samp", ")", " => now"),
     "choices": triangle("1 ? ", "1", " : 1", " => x"),
     "calls": triangle("f(", "1", ")", " + 1"),
+    "new objects with arguments": triangle("(new P(", "1", ")).n", " + 1"),
     "indices": triangle("a[", "1", "]", " + 1"),
     "lists": triangle("[", "1", "][0]", " + 1"),
 }
@@ -199,6 +207,10 @@ PLACES = {
     "wait": "({})::samp => now;",
     "size of a new array": "new int[{}] @=> int b[];",
     "item of a list": "[1, {}] @=> int b[];",
+    "array of a for": "for (int y : [1, {}]) y;",
+    "argument of a declaration": "P p({});",
+    "argument of new": "new P({});",
+    "body of a constructor": "class D {{ fun @construct() {{ {}; }} }} D d;",
     "part of a string": '"a" + ({});',
     "field": "class D {{ {} => int y; }} D d;",
     "size of a field": "class D {{ int y[{}]; }} D d;",
@@ -217,6 +229,7 @@ STATEMENTS = {
     "do untils": ("do ", " until (1);"),
     "fors": ("for (; 0; ) ", ""),
     "fors with a declaration": ("for (0 => int i; i < 1; i++) ", ""),
+    "fors over an array": ("for (int y : a) ", ""),
     "repeats": ("repeat (1) ", ""),
 }
 

@@ -382,7 +382,7 @@ fn plain_call(
 }
 
 /// The arguments, each taken as its parameter of a function.
-fn taken_by(
+pub(crate) fn taken_by(
     alloc: Global,
     table: &Table,
     scope: &Scope,

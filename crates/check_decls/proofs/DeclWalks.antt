@@ -59,12 +59,13 @@ module _ (t : Table) (f : ℕ) where
   abbrev pub one_member : (class first : ℕ) → Walked → Member → Answer Walked
   one_member c first w m = and_member_typed t f c first w (view_member m)
 
-  pub members_run : (c first : ℕ) (before : Members) (members : List Member)
-      → members_typed t f c first (members_of before members)
-      ≡ run (on (one_member c first)) (members_typed t f c first before) members
-  members_run c first before [] = refl
-  members_run c first before (m ∷ members) =
-      members_run c first (and_member before (view_member m)) members
+  pub members_run : (c first : ℕ) (settled : List (ℕ × Kind)) (before : Members)
+      (members : List Member)
+      → members_typed t f c first settled (members_of before members)
+      ≡ run (on (one_member c first)) (members_typed t f c first settled before) members
+  members_run c first settled before [] = refl
+  members_run c first settled before (m ∷ members) =
+      members_run c first settled (and_member before (view_member m)) members
 
   abbrev pub one_item : Walked → Item → Answer Walked
   one_item w i = and_item_typed t f w (view_item i)

@@ -3,3 +3,4 @@ pub mod DeclWalks
 pub mod Printed
 pub mod Rows
 pub mod StatementWalks
+pub mod Settling

@@ -8,10 +8,11 @@ use Rattle.ck_values.specs.declared.kind.Kind.{Kind}
 use Rattle.ck_typed.specs.declared.expr.TypedExpr.{TypedExpr}
 use Rattle.ck_typed.specs.Tree.{Expr, Exprs, no_exprs, more_exprs}
 use Rattle.ck_typed.specs.View.{view_expr, exprs_of}
+use Rattle.check_scope.specs.Denotations.{is_void}
 use Rattle.check_scope.specs.Scope.{is_empty}
 use Rattle.check_scope.specs.View.{view_typed, all_typed}
 use Rattle.check_scope.specs.declared.typed.Typed.{Typed}
-use Rattle.program_laws.specs.Statements.{is_void, exprs, kinds}
+use Rattle.program_laws.specs.Statements.{exprs, kinds}
 
 abbrev pub no_value : Typed → Bool
 no_value x = is_void x.kind

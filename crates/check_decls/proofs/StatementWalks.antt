@@ -1,14 +1,18 @@
 -- The walks over statements that hold lists, and over lists of statements and of declarations.
-use Rattle.std.proofs.Common.{◌≡◌, ℕ, ◌+◌, List, [], ◌∷◌, ◌++◌, map, refl, sym, ap, ◌∙◌}
+use Rattle.std.proofs.Common.{rules, ◌≡◌, ℕ, ◌+◌, List, [], ◌∷◌, ◌++◌, map, refl, sym, ap, ◌∙◌}
+use Rattle.std.proofs.Common.{Box, Global}
 use Rattle.std.proofs.lemmas.List.{map-append}
 use Rattle.ck_syntax.specs.declared.declaration.DeclHead.{DeclHead}
 use Rattle.ck_syntax.specs.declared.expr.Declarator.{Declarator}
+use Rattle.ck_syntax.specs.declared.expr.Expr.{Expr}
+use Rattle.ck_syntax.specs.declared.stmt.LoopItem.{LoopItem}
 use Rattle.ck_syntax.specs.declared.stmt.Stmt.{Stmt}
 use Rattle.ck_syntax.specs.declared.stmt.StmtKind.TheVariants as raw
+use Rattle.ck_syntax.specs.declared.stmt.StmtKind.TheViews.{the_lemmas}
 use Rattle.ck_syntax.specs.Size.{stmt_size, stmts_size}
 use Rattle.ck_syntax.specs.Tree as tree
 use Rattle.ck_syntax.specs.Tree.{Declrs, no_declrs, and_declr, Stmts, no_stmts, and_stmt}
-use Rattle.ck_syntax.specs.View.{view_stmt, view_stmt_kind, stmts_of, view_declr, declrs_of}
+use Rattle.ck_syntax.specs.View.{view_expr, view_stmt, view_stmt_kind, stmts_of, view_declr, declrs_of}
 use Rattle.ck_syntax.proofs.Views.{view-Block}
 use Rattle.type_table.specs.Answer.{Answer, gives, and_then}
 use Rattle.type_table.specs.Table.{Table}
@@ -22,7 +26,7 @@ use Rattle.ck_typed.specs.View.{view_stmt as view_typed_stmt}
 use Rattle.program_laws.specs.declared.surroundings.Surroundings.{Surroundings}
 use Rattle.program_laws.specs.Statements.{Stated, AllStated, and_stated, simple, declarations, statement}
 use Rattle.program_laws.specs.Statements.{statements}
-use Rattle.check_decls.specs.StatementTyping.{block}
+use Rattle.check_decls.specs.StatementTyping.{block, for_each}
 use Rattle.check_decls.specs.View.{stated_as, all_stated}
 
 pub block_is : (t : Table) (o : Surroundings) (s : Scope) (x : Stmt) (all : List Stmt)
@@ -35,6 +39,19 @@ pub block_size : (x : Stmt) (all : List Stmt) → x.kind ≡ raw.Block all
     → stmt_size (view_stmt x) ≡ stmts_size (stmts_of no_stmts all) + 2
 block_size x all is =
     ap (λ k. stmt_size (view_stmt_kind x.line k)) is ∙ ap stmt_size (view-Block x.line all)
+
+view_each : (l : ℕ) (item : Box LoopItem Global) (array : Expr) (body : Box Stmt Global)
+    → view_stmt_kind l (raw.ForEach item array body)
+    ≡ tree.for_each l item.value.head item.value.name item.value.brackets (view_expr array)
+    (view_stmt body.value)
+view_each l item array body = search (rules, the_lemmas)
+
+pub each_is : (t : Table) (o : Surroundings) (s : Scope) (x : Stmt) (item : Box LoopItem Global)
+    (array : Expr) (body : Box Stmt Global) → x.kind ≡ raw.ForEach item array body
+    → statement t o s (view_stmt x) ≡ for_each t o s x.line item.value array body.value
+each_is t o s x item array body is =
+    ap (λ k. statement t o s (view_stmt_kind x.line k)) is
+    ∙ ap (statement t o s) (view_each x.line item array body)
 
 -- one declaration more
 abbrev pub one_declaration : Table → ℕ → DeclHead → AllStated → Declarator → Answer AllStated

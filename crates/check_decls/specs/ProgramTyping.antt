@@ -29,8 +29,9 @@ params types s l ps = of.with_params types s l (params_of no_params ps)
 abbrev pub fun_with : Table → (number line : ℕ) → List Stmt → Scope → Answer Fun
 fun_with t f l body s = of.fun_with t f l (stmts_of no_stmts body) s
 
-abbrev pub fun_typed : Table → (file : ℕ) → (class : Option ℕ) → (number : ℕ) → FunDef → Answer Fun
-fun_typed t file class f x = of.fun_typed t file class f (view_fun x)
+abbrev pub fun_typed : Table → (file : ℕ) → (class : Option ℕ) → (number : ℕ)
+    → (settled : List (ℕ × Kind)) → FunDef → Answer Fun
+fun_typed t file class f settled x = of.fun_typed t file class f settled (view_fun x)
 
 -- classes and files -----------------------------------------------------------------------------
 
@@ -40,11 +41,13 @@ and_statement t w x = of.and_statement t (view_walked w) (view_stmt x)
 abbrev pub and_member : Table → (file class first : ℕ) → WalkedItems → Member → Answer Walked
 and_member t file c first w m = of.and_member_typed t file c first (view_walked w) (view_member m)
 
-abbrev pub members : Table → (file class first : ℕ) → List Member → Answer Walked
-members t file c first ms = of.members_typed t file c first (members_of no_members ms)
+abbrev pub members : Table → (file class first : ℕ) → (settled : List (ℕ × Kind)) → List Member
+    → Answer Walked
+members t file c first settled ms = of.members_typed t file c first settled (members_of no_members ms)
 
-abbrev pub class_typed : Table → (file first : ℕ) → ClassDef → Answer (List Fun)
-class_typed t file first c = of.class_typed t file first (view_class c)
+abbrev pub class_typed : Table → (file first : ℕ) → (settled : List (ℕ × Kind)) → ClassDef
+    → Answer (List Fun)
+class_typed t file first settled c = of.class_typed t file first settled (view_class c)
 
 abbrev pub and_item : Table → (file : ℕ) → WalkedItems → Item → Answer Walked
 and_item t file w x = of.and_item_typed t file (view_walked w) (view_item x)

@@ -1,10 +1,11 @@
 -- What the definition says of statements that stand in memory, each by its parts.
-use Rattle.std.specs.Prelude.{ℕ, Bool, List, Option}
+use Rattle.std.specs.Prelude.{ℕ, Bool, List, length, Option}
 use Rattle.std.specs.Global.{Box}
 use Rattle.ck_values.specs.declared.trap.Place.{Place}
 use Rattle.ck_syntax.specs.declared.declaration.DeclHead.{DeclHead}
 use Rattle.ck_syntax.specs.declared.expr.Declarator.{Declarator}
 use Rattle.ck_syntax.specs.declared.expr.Expr.{Expr}
+use Rattle.ck_syntax.specs.declared.stmt.LoopItem.{LoopItem}
 use Rattle.ck_syntax.specs.declared.stmt.Stmt.{Stmt}
 use Rattle.ck_syntax.specs.Tree.{no_declrs, no_exprs, no_stmts}
 use Rattle.ck_syntax.specs.View.{view_expr, view_option, view_stmt, exprs_of, declrs_of, stmts_of}
@@ -15,7 +16,7 @@ use Rattle.ck_typed.specs.View.{view_stmt as typed_stmt}
 use Rattle.type_table.specs.Answer.{Answer, gives, and_then}
 use Rattle.type_table.specs.Table.{Table}
 use Rattle.check_scope.specs.Expressions.{Valued, typing, values}
-use Rattle.check_scope.specs.Scope.{Scope, place, with_block}
+use Rattle.check_scope.specs.Scope.{Scope, place, with_block, with_local}
 use Rattle.program_laws.specs.declared.surroundings.Surroundings.{Surroundings}
 use Rattle.program_laws.specs.Statements as of
 use Rattle.program_laws.specs.Statements.{Stated, AllStated, Tested, stated, left, looped}
@@ -108,6 +109,20 @@ for_do t o s l a c e b =
     and_then (for_step t y.scope e) (λ z.
     and_then (in_block t (looped o) z.scope b) (λ w.
     gives (left (of.for_made y.test x.stmt z.stmt w.stmt (place w.scope l)) w.scope)))))
+
+-- over the items of an array
+abbrev pub for_each : Table → Surroundings → Scope → (line : ℕ) → (item : LoopItem) → (array : Expr)
+    → (body : Stmt) → Answer Stated
+for_each t o s l x a b =
+    and_then (typing t (with_block s) (view_expr a)) (λ v.
+    and_then
+    (of.local_item t v.scope l x.head x.name x.brackets (of.item_kind v.typed.kind) x.head.base)
+    (λ k.
+    and_then (in_block t (looped o) (with_local v.scope x.name k) b) (λ y.
+    gives (left
+    (typed.ForEach v.typed.expr (length v.scope.locals) (of.widens v.typed.kind k) y.stmt
+    (place y.scope l))
+    y.scope))))
 
 abbrev pub repeat : Table → Surroundings → Scope → (line : ℕ) → (count : Expr) → (body : Stmt)
     → Answer Stated

@@ -17,8 +17,9 @@ ghost use Rattle.type_table.specs.declared.fault.TypeFault.TheVariants.{Memory a
 use crate::simple::block_of;
 use crate::statements::statements;
 use check_exprs::Scope;
+use check_scope::Settled;
 use ck_base::{List, Text};
-use ck_syntax::{FunDef, Param, Stmt};
+use ck_syntax::{FunDef, FunHead, Param, Stmt};
 use ck_typed::{TypedFun, TypedStmt};
 use ck_values::{Elem, Kind};
 use program_laws::Surroundings;
@@ -32,14 +33,15 @@ pub(crate) fn scope_with_this(
     file: u32,
     class: u32,
     fun: Option<u32>,
+    settled: Settled,
 ) -> Result<Scope, TypeFault>
     ensures made { IfOk result
-        (λ scope. scope ≡ definition.with_this (new_scope file (Some class) fun) class) }
+        (λ scope. scope ≡ definition.with_this (new_scope file (Some class) fun settled) class) }
     ensures few { IfOk result (λ scope. length scope.locals ≤ 1) }
     ensures memory { IfErr result (λ why. why ≡ memory out_of_memory) }
 {
     let this = Text::from_bytes(alloc, b"this")?;
-    let mut scope = Scope::new(alloc, file, Some(class), fun);
+    let mut scope = Scope::new(alloc, file, Some(class), fun, settled);
     match scope.declare(alloc, &this, Kind::One(Elem::Class(class)), 0) {
         Ok(_) => Ok(scope),
         Err(why) => Err(why),
@@ -53,14 +55,16 @@ fn fun_scope(
     class: Option<u32>,
     fun: u32,
     is_static: bool,
+    settled: Settled,
 ) -> Result<Scope, TypeFault>
-    ensures made { IfOk result (λ scope. scope ≡ definition.fun_scope file class fun is_static) }
+    ensures made { IfOk result
+        (λ scope. scope ≡ definition.fun_scope file class fun is_static settled) }
     ensures few { IfOk result (λ scope. length scope.locals ≤ 1) }
     ensures memory { IfErr result (λ why. why ≡ memory out_of_memory) }
 {
     match class {
-        Some(class) if !is_static => scope_with_this(alloc, file, class, Some(fun)),
-        _ => Ok(Scope::new(alloc, file, class, Some(fun))),
+        Some(class) if !is_static => scope_with_this(alloc, file, class, Some(fun), settled),
+        _ => Ok(Scope::new(alloc, file, class, Some(fun), settled)),
     }
 }
 
@@ -146,7 +150,7 @@ pub(crate) fn fun_made(
 }
 
 /// A function of this number, in whose scope its parameters are declared. They are a level of
-/// their own around the body.
+/// their own around the body. What was settled before is given back as it was.
 fn fun_with(
     alloc: Global,
     table: &Table,
@@ -154,10 +158,11 @@ fn fun_with(
     line: u32,
     body: &[Stmt],
     mut scope: Scope,
-) -> Result<TypedFun, TypeFault>
+) -> Result<(TypedFun, Settled), TypeFault>
     requires room { length scope.locals + stmts_size (stmts_of no_stmts body.now) < 2 ^ 32 }
-    ensures typed { IfOk result
-        (λ f. typing.fun_with table.now number line body.now scope ≡ gives (view_typed_fun f)) }
+    ensures typed { IfOk result (λ made.
+        typing.fun_with table.now number line body.now scope ≡ gives (view_typed_fun made.0)) }
+    ensures settled { IfOk result (λ made. made.1 ≡ scope.settled) }
     ensures refused { IsRefused result (typing.fun_with table.now number line body.now scope) }
 {
     let params = scope.next();
@@ -168,24 +173,40 @@ fn fun_with(
     };
     scope.enter(alloc)?;
     let typed = statements(alloc, table, around, &mut scope, body)?;
-    Ok(fun_made(params, kind, line, typed, scope))
+    let settled = scope.lend_settled(alloc);
+    Ok((fun_made(params, kind, line, typed, scope), settled))
 }
 
-/// The function of this number: of a class, or of a file.
+/// Whether a function is static; a constructor isn't.
+fn is_static(fun: &FunDef) -> bool
+    ensures { result ≡ definition.is_static (view_fun fun.now) }
+{
+    match &fun.head {
+        FunHead::Named { is_static, .. } => *is_static,
+        FunHead::Construct => false,
+    }
+}
+
+/// The function of this number: of a class, or of a file. What was settled before is known in it,
+/// and given back as it was.
 pub(crate) fn fun_typed(
     alloc: Global,
     table: &Table,
     file: u32,
     class: Option<u32>,
     number: u32,
+    settled: Settled,
     fun: &FunDef,
-) -> Result<TypedFun, TypeFault>
+) -> Result<(TypedFun, Settled), TypeFault>
     requires room { fun_size (view_fun fun.now) < 2 ^ 32 }
-    ensures typed { IfOk result
-        (λ f. typing.fun_typed table.now file class number fun.now ≡ gives (view_typed_fun f)) }
-    ensures refused { IsRefused result (typing.fun_typed table.now file class number fun.now) }
+    ensures typed { IfOk result (λ made.
+        typing.fun_typed table.now file class number settled fun.now
+        ≡ gives (view_typed_fun made.0)) }
+    ensures settled { IfOk result (λ made. made.1 ≡ settled) }
+    ensures refused { IsRefused result
+        (typing.fun_typed table.now file class number settled fun.now) }
 {
-    let mut scope = fun_scope(alloc, file, class, number, fun.is_static)?;
+    let mut scope = fun_scope(alloc, file, class, number, is_static(fun), settled)?;
     let types = table.params(number);
     declare_params(alloc, types, &mut scope, fun.line, fun.params.items())?;
     fun_with(alloc, table, number, fun.line, fun.body.items(), scope)

@@ -84,6 +84,7 @@ pub(crate) fn for_test(
         | StmtKind::DoWhile { .. }
         | StmtKind::DoUntil { .. }
         | StmtKind::For { .. }
+        | StmtKind::ForEach { .. }
         | StmtKind::Repeat { .. }
         | StmtKind::Break
         | StmtKind::Continue

@@ -8,6 +8,7 @@
 
 mod functions;
 mod heads;
+mod items;
 mod jumps;
 mod print;
 mod programs;

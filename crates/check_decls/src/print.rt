@@ -8,6 +8,7 @@ ghost use Rattle.ck_typed.specs.View.{exprs_of as typed_exprs};
 ghost use Rattle.check_decls.specs.StatementTyping as typing;
 ghost use Rattle.check_decls.specs.Outcomes.{IsStated, IsRefused};
 ghost use Rattle.program_laws.specs.Statements as definition;
+ghost use Rattle.check_scope.specs.Denotations.{is_void};
 ghost use Rattle.check_scope.specs.View.{all_typed, all_valued};
 ghost use Rattle.fixed_point.specs.Wanting.{out_of_memory};
 ghost use Rattle.type_table.specs.declared.fault.TypeFault.TheVariants.{Memory as memory};
@@ -23,14 +24,14 @@ use type_table::{FaultKind, Table, TypeFault};
 
 /// Whether a type is that of no value.
 fn is_void(kind: Kind) -> bool
-    ensures { result ≡ definition.is_void kind }
+    ensures { result ≡ is_void kind }
 {
     matches!(kind, Kind::Void)
 }
 
 /// Whether one of these is no value.
 fn has_void(values: &[Typed]) -> bool
-    ensures { result ≡ list_any (λ x. definition.is_void x.kind) (all_typed values.now) }
+    ensures { result ≡ list_any (λ x. is_void x.kind) (all_typed values.now) }
 {
     for value in values {
         if is_void(value.kind) {

@@ -59,9 +59,10 @@ impl Checked {
         let first = number(self.table.classes.len());
         enter_file(alloc, &mut self.table, file, raw)?;
         let walked = items_typed(alloc, &self.table, file, first, raw.items.items())?;
+        self.mains.push(self.table.main_of(file))?;
+        self.table.settle_all(walked.settled());
         let mut funs = walked.file_funs()?;
         self.funs.append(&mut funs)?;
-        self.mains.push(self.table.main_of(file))?;
         Ok(())
     }
 

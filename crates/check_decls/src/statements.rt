@@ -9,13 +9,14 @@ ghost use Rattle.check_decls.specs.Outcomes.{IsStated, AreStated, IsRefused};
 use crate::heads::{
     condition, do_made, for_made, for_step, for_test, if_made, repeat_made, while_made,
 };
+use crate::items::{each_made, item_kind, local_item, widens};
 use crate::jumps::{jump, return_meaning};
 use crate::print::print;
 use crate::simple::{block_of, declared, dropped, nothing, push_statement};
-use check_exprs::Scope;
+use check_exprs::{Scope, expr};
 use check_scope::boxed;
 use ck_base::List;
-use ck_syntax::{Expr, Stmt, StmtKind};
+use ck_syntax::{Expr, LoopItem, Stmt, StmtKind};
 use ck_typed::TypedStmt;
 use program_laws::Surroundings;
 use std::alloc::Global;
@@ -70,6 +71,9 @@ pub(crate) fn statement(
             step,
             body,
         } => for_do(alloc, table, around, scope, line, start, test, body, step),
+        StmtKind::ForEach { item, array, body } => {
+            for_each(alloc, table, around, scope, line, item, body, array)
+        }
         StmtKind::Repeat { count, body } => repeat(alloc, table, around, scope, line, body, count),
         StmtKind::Break => {
             let place = scope.place(line);
@@ -289,6 +293,37 @@ fn for_do(
     let body = in_block(alloc, table, around.looped(), scope, body)?;
     scope.leave();
     for_made(alloc, test, start, step, body, scope.place(line))
+}
+
+/// `for (item : array) body`: a block with its head, in which the array comes first.
+#[cycle(statements)]
+fn for_each(
+    alloc: Global,
+    table: &Table,
+    around: Surroundings,
+    scope: &mut Scope,
+    line: u32,
+    item: &LoopItem,
+    body: &Stmt,
+    array: &Expr,
+) -> Result<Box<TypedStmt>, TypeFault>
+    requires room { length scope.old.locals + expr_size (view_expr array.now)
+        + stmt_size (view_stmt body.now) + 1 < 2 ^ 32 }
+    ensures stated { IsStated result scope.new
+        (typing.for_each table.now around scope.old line item.now array.now body.now) }
+    ensures refused { IsRefused result
+        (typing.for_each table.now around scope.old line item.now array.now body.now) }
+    ensures grown { length scope.new.locals ≤ length scope.old.locals
+        + expr_size (view_expr array.now) + stmt_size (view_stmt body.now) + 1 }
+{
+    scope.enter(alloc)?;
+    let array = expr(alloc, table, scope, array)?;
+    let kind = local_item(table, scope, line, item, item_kind(array.kind))?;
+    let widens = widens(array.kind, kind);
+    let local = scope.declare(alloc, &item.name, kind, line)?;
+    let body = in_block(alloc, table, around.looped(), scope, body)?;
+    scope.leave();
+    each_made(alloc, array.expr, local, widens, body, scope.place(line))
 }
 
 /// `repeat (count) body`

@@ -20,7 +20,7 @@ ghost use Rattle.type_table.specs.declared.fault.TypeFault.TheVariants.{Memory a
 use crate::functions::{fun_made, fun_typed, scope_with_this};
 use crate::statements::statement;
 use check_exprs::Scope;
-use check_scope::{boxed, push, push_front};
+use check_scope::{Settled, boxed, push, push_front};
 use ck_base::List;
 use ck_syntax::{ClassDef, Item, Member, Stmt};
 use ck_typed::{TypedFun, TypedStmt};
@@ -141,7 +141,11 @@ impl Walked {
         match member {
             Member::Fun(fun) => {
                 let number = self.next_number(first);
-                self.add_fun(fun_typed(alloc, table, file, Some(class), number, fun)?)
+                let lent = self.scope.lend_settled(alloc);
+                let class = Some(class);
+                let (typed, settled) = fun_typed(alloc, table, file, class, number, lent, fun)?;
+                self.scope.with_settled(settled);
+                self.add_fun(typed)
             }
             Member::Stmt(s) => self.add_statement(alloc, table, s),
         }
@@ -172,11 +176,17 @@ impl Walked {
         match item {
             Item::Class(def) => {
                 let first = self.next_fun(table, file);
-                self.add_funs(class_typed(alloc, table, file, class, first, def)?)
+                let lent = self.scope.lend_settled(alloc);
+                let (funs, settled) = class_typed(alloc, table, file, class, first, lent, def)?;
+                self.scope.with_settled(settled);
+                self.add_funs(funs)
             }
             Item::Fun(fun) => {
                 let number = self.next_fun(table, file);
-                self.add_fun(fun_typed(alloc, table, file, None, number, fun)?)
+                let lent = self.scope.lend_settled(alloc);
+                let (typed, settled) = fun_typed(alloc, table, file, None, number, lent, fun)?;
+                self.scope.with_settled(settled);
+                self.add_fun(typed)
             }
             Item::Stmt(s) => self.add_statement(alloc, table, s),
         }
@@ -216,6 +226,13 @@ impl Walked {
         }
     }
 
+    /// The types that declarations with `auto` gave to the file variables.
+    pub(crate) fn settled(&self) -> &[(u32, Kind)]
+        ensures { result.now ≡ definition.settled_by (view_walked self.now) }
+    {
+        self.scope.settled().all()
+    }
+
     /// The functions of a file. That of its statements comes first.
     pub(crate) fn file_funs(self) -> Result<Vec<TypedFun>, TypeFault>
         ensures made { IfOk result
@@ -233,17 +250,21 @@ fn members_typed(
     file: u32,
     class: u32,
     first: u32,
+    settled: Settled,
     members: &[Member],
 ) -> Result<Walked, TypeFault>
     requires room { members_size (members_of no_members members.now) + 1 < 2 ^ 32 }
     requires numbers { first + members_size (members_of no_members members.now) < 2 ^ 32 }
     ensures typed { IfOk result
-        (λ w. typing.members table.now file class first members.now ≡ gives (view_walked w)) }
-    ensures refused { IsRefused result (typing.members table.now file class first members.now) }
+        (λ w. typing.members table.now file class first settled members.now
+        ≡ gives (view_walked w)) }
+    ensures kept { IfOk result (λ w. w.scope.value.settled ≡ settled) }
+    ensures refused { IsRefused result
+        (typing.members table.now file class first settled members.now) }
     ensures more { IfOk result (λ w. length w.funs.items
         ≤ members_size (members_of no_members members.now)) }
 {
-    let mut walked = Walked::begun(alloc, scope_with_this(alloc, file, class, None)?)?;
+    let mut walked = Walked::begun(alloc, scope_with_this(alloc, file, class, None, settled)?)?;
     for member in members {
         walked.add_member(alloc, table, file, class, first, member)?;
     }
@@ -267,22 +288,26 @@ fn class_typed(
     file: u32,
     class: u32,
     first: u32,
+    settled: Settled,
     def: &ClassDef,
-) -> Result<Vec<TypedFun>, TypeFault>
+) -> Result<(Vec<TypedFun>, Settled), TypeFault>
     requires numbered { HasNumber table.now file class (class_item (view_class def.now)) }
     requires room { class_size (view_class def.now) < 2 ^ 32 }
     requires numbers { first + class_size (view_class def.now) < 2 ^ 32 }
     ensures typed { IfOk result
-        (λ funs. typing.class_typed table.now file first def.now
-        ≡ gives (map view_fun funs.items)) }
-    ensures refused { IsRefused result (typing.class_typed table.now file first def.now) }
-    ensures more { IfOk result (λ funs. length funs.items ≤ class_size (view_class def.now)) }
+        (λ made. typing.class_typed table.now file first settled def.now
+        ≡ gives (map view_fun made.0.items)) }
+    ensures settled { IfOk result (λ made. made.1 ≡ settled) }
+    ensures refused { IsRefused result
+        (typing.class_typed table.now file first settled def.now) }
+    ensures more { IfOk result (λ made. length made.0.items ≤ class_size (view_class def.now)) }
 {
     let members = def.members.items();
     let has_body = have_statement(members);
     let first = first_method(has_body, first);
-    let walked = members_typed(alloc, table, file, class, first, members)?;
-    walked.class_funs(has_body, def.line)
+    let mut walked = members_typed(alloc, table, file, class, first, settled, members)?;
+    let settled = walked.scope.lend_settled(alloc);
+    Ok((walked.class_funs(has_body, def.line)?, settled))
 }
 
 /// The items of a file, whose classes are numbered from the first on.
@@ -302,7 +327,10 @@ pub(crate) fn items_typed(
         (λ w. typing.items table.now file items.now ≡ gives (view_walked w)) }
     ensures refused { IsRefused result (typing.items table.now file items.now) }
 {
-    let mut walked = Walked::begun(alloc, Scope::new(alloc, file, None, None))?;
+    let mut walked = Walked::begun(
+        alloc,
+        Scope::new(alloc, file, None, None, Settled::none(alloc)),
+    )?;
     let mut class = first;
     for item in items {
         walked.add_item(alloc, table, file, class, item)?;

@@ -1,13 +1,14 @@
 //! Whole expressions: operands come first, from left to right, and then the expression itself.
 #![tactic(auto, using(ck_syntax::proofs::Views::line_is))]
 
-ghost use Rattle.std.specs.Prelude.{◌≡◌, ◌+◌, ◌^◌, ◌<◌, ◌≤◌, None, Some, length, IsSome, IfOk, IfErr};
+ghost use Rattle.std.specs.Prelude.{◌≡◌, ◌+◌, ◌^◌, ◌<◌, ◌≤◌, ℕ, None, Some, length, IsSome, IfOk, IfErr};
 ghost use Rattle.ck_syntax.specs.Size.{expr_size, exprs_size, brackets_size, declr_size};
+ghost use Rattle.ck_syntax.specs.declared.declaration.DeclHead.{DeclHead as RawHead};
 ghost use Rattle.ck_syntax.specs.Tree as tree;
 ghost use Rattle.ck_syntax.specs.Tree.{no_exprs, no_brackets};
 ghost use Rattle.ck_syntax.specs.View.{view_expr, exprs_of, brackets_of, view_declr};
 ghost use Rattle.check_scope.specs.Expressions as definition;
-ghost use Rattle.check_scope.specs.View.{meant, valued, all_valued, Answers};
+ghost use Rattle.check_scope.specs.View.{meant, valued, all_valued, view_making, Answers};
 ghost use Rattle.check_exprs.specs.Operands.{first_operand};
 ghost use Rattle.type_table.specs.Answer.{gives, fault, IsFault};
 
@@ -16,11 +17,15 @@ use check_calls::{call_meaning, spork_meaning};
 use check_names::{declaration_meaning, name_meaning};
 use check_operations::{
     array_meaning, binary_meaning, cast_meaning, choice_meaning, dur_meaning, float, int,
-    item_meaning, new_meaning, postfix_meaning, prefix_meaning, text, unit, unit_in, word_meaning,
+    item_meaning, new_meaning, new_with_meaning, postfix_meaning, prefix_meaning, text, unit,
+    unit_in, word_meaning,
 };
-use check_scope::{Denoted, Scope, Typed, as_value, boxed, push};
+use check_scope::{Denoted, Making, Scope, Typed, as_value, boxed, push};
 use ck_base::{List, Text};
-use ck_syntax::{Base, BinaryOp, Bracket, ChuckOp, DeclHead, Declarator, Expr, ExprKind, TypeName};
+use ck_syntax::{
+    Base, BinaryOp, Bracket, ChuckOp, DeclHead, Declarator, DeclaratorTail, Expr, ExprKind,
+    TypeName,
+};
 use std::alloc::Global;
 use type_table::{FaultKind, Table, TypeFault};
 
@@ -85,6 +90,9 @@ fn apart(alloc: Global, table: &Table, scope: &mut Scope, e: &Expr) -> Result<De
         ExprKind::Paren(inner) => paren(alloc, table, scope, line, inner),
         ExprKind::Array(items) => array(alloc, table, scope, line, items.items()),
         ExprKind::New { base, sizes } => new(alloc, table, scope, line, base, sizes.items()),
+        ExprKind::NewWith { base, arguments } => {
+            new_with(alloc, table, scope, line, base, arguments.items())
+        }
         ExprKind::Spork(call) => spork(alloc, table, scope, line, call),
         ExprKind::Declare { head, declarator } => {
             declare(alloc, table, scope, line, head, declarator)
@@ -168,6 +176,7 @@ fn behind(
         | ExprKind::Paren(_)
         | ExprKind::Array(_)
         | ExprKind::New { .. }
+        | ExprKind::NewWith { .. }
         | ExprKind::Spork(_)
         | ExprKind::Declare { .. } => unreachable!(),
     }
@@ -403,7 +412,30 @@ fn new(
 {
     let sizes = exprs(alloc, table, scope, sizes)?;
     let named = table.named(scope.file(), base);
-    let new = new_meaning(alloc, scope, line, named, sizes)?;
+    let new = new_meaning(alloc, table, scope, line, named, sizes)?;
+    Ok(Denoted::Value(new))
+}
+
+/// `new base(arguments)`
+#[cycle(expressions)]
+fn new_with(
+    alloc: Global,
+    table: &Table,
+    scope: &mut Scope,
+    line: u32,
+    base: &Base,
+    arguments: &[Expr],
+) -> Result<Denoted, TypeFault>
+    requires room { length scope.old.locals + exprs_size (exprs_of no_exprs arguments.now) < 2 ^ 32 }
+    ensures meant { Answers (λ m. meant m scope.new) result
+        (definition.meaning table.now scope.old
+        (tree.new_with line base.now (exprs_of no_exprs arguments.now))) }
+    ensures grown { length scope.new.locals ≤ length scope.old.locals
+        + exprs_size (exprs_of no_exprs arguments.now) }
+{
+    let arguments = List::from_vec(exprs(alloc, table, scope, arguments)?);
+    let named = table.named(scope.file(), base);
+    let new = new_with_meaning(alloc, table, scope, line, named, arguments)?;
     Ok(Denoted::Value(new))
 }
 
@@ -473,6 +505,7 @@ fn spork(
         | ExprKind::Dur { .. }
         | ExprKind::Prefix { .. }
         | ExprKind::New { .. }
+        | ExprKind::NewWith { .. }
         | ExprKind::Spork(_)
         | ExprKind::Cast { .. }
         | ExprKind::Binary { .. }
@@ -569,7 +602,40 @@ fn choice(
     Ok(Denoted::Value(choice))
 }
 
-/// A declaration: its sizes come first, and its name is seen from then on.
+/// What a declaration makes its first value of.
+#[cycle(expressions)]
+fn making(
+    alloc: Global,
+    table: &Table,
+    scope: &mut Scope,
+    declarator: &Declarator,
+) -> Result<Making, TypeFault>
+    requires room { length scope.old.locals + declr_size (view_declr declarator.now) < 2 ^ 32 }
+    ensures made { IfOk result
+        (λ making. (line : ℕ) (head : RawHead) →
+        definition.meaning table.now scope.old (tree.declare line head (view_declr declarator.now))
+        ≡ definition.declaration_meaning table.now scope.new line head
+        (view_declr declarator.now) (view_making making)) }
+    ensures refused { IfErr result
+        (λ why. IsFault why → (line : ℕ) (head : RawHead) →
+        definition.meaning table.now scope.old (tree.declare line head (view_declr declarator.now))
+        ≡ fault why) }
+    ensures grown { length scope.new.locals + 1 ≤ length scope.old.locals
+        + declr_size (view_declr declarator.now) }
+{
+    match &declarator.tail {
+        DeclaratorTail::Brackets(brackets) => {
+            let sizes = sizes(alloc, table, scope, brackets.items())?;
+            Ok(Making::Sizes(List::from_vec(sizes)))
+        }
+        DeclaratorTail::Arguments(arguments) => {
+            let arguments = exprs(alloc, table, scope, arguments.items())?;
+            Ok(Making::Arguments(List::from_vec(arguments)))
+        }
+    }
+}
+
+/// A declaration: what its first value is made of comes first, and its name is seen from then on.
 #[cycle(expressions)]
 fn declare(
     alloc: Global,
@@ -586,18 +652,8 @@ fn declare(
     ensures grown { length scope.new.locals ≤ length scope.old.locals
         + declr_size (view_declr declarator.now) }
 {
-    let brackets = declarator.brackets.items();
-    let sizes = List::from_vec(sizes(alloc, table, scope, brackets)?);
-    declaration_meaning(
-        alloc,
-        table,
-        scope,
-        line,
-        head,
-        &declarator.name,
-        brackets,
-        sizes,
-    )
+    let making = making(alloc, table, scope, declarator)?;
+    declaration_meaning(alloc, table, scope, line, head, declarator, making)
 }
 
 /// `left => right` and its like, whose left operand stands for `first`.
@@ -618,7 +674,7 @@ fn chuck(
         (definition.meaning table.now before
         (tree.chuck line (view_expr left.now) operator (view_expr right.now))) }
     ensures grown { length scope.new.locals ≤ length scope.old.locals
-        + expr_size (view_expr right.now) }
+        + expr_size (view_expr right.now) + 1 }
 {
     let value = as_value(alloc, scope, left.line, first)?;
     let target = meaning(alloc, table, scope, right)?;

@@ -1,14 +1,14 @@
 //! Waits: what is chucked to `now`, and what is called on `me`.
-ghost use Rattle.std.specs.Prelude.{◌≡◌, if◌then◌else◌};
+ghost use Rattle.std.specs.Prelude.{◌≡◌, ◌+◌, ◌^◌, ◌<◌, ◌≤◌, length, if◌then◌else◌};
 ghost use Rattle.std.specs.Option.{option_map};
 ghost use Rattle.ck_syntax.specs.Tree.{expr_line};
 ghost use Rattle.ck_syntax.specs.View.{view_expr};
 ghost use Rattle.type_rules.specs.Fitting.{is_below};
 ghost use Rattle.check_scope.specs.Expressions as definition;
-ghost use Rattle.check_scope.specs.View.{view_typed, view_callee, view_denoted, Answers, view_value};
+ghost use Rattle.check_scope.specs.View.{view_typed, view_callee, view_denoted, value_meant, Answers, view_value};
 
 use check_calls::chuck_meaning;
-use check_names::member_meaning;
+use check_names::{auto_chucked, member_meaning};
 use check_scope::{Callee, Denoted, Scope, Typed};
 use ck_base::Text;
 use ck_syntax::{ChuckOp, Constant, Expr, ExprKind};
@@ -95,9 +95,9 @@ fn is_now(expr: &Expr) -> bool
     matches!(&expr.kind, ExprKind::Constant(Constant::Now))
 }
 
-/// What is chucked to `now`, or to anything else.
+/// What is chucked to `now`, or to anything else but a declaration with `auto`.
 #[tactic(auto, using(ck_syntax::proofs::Views::line_is))]
-pub(crate) fn chucked(
+fn other_chucked(
     alloc: Global,
     table: &Table,
     scope: &Scope,
@@ -119,6 +119,32 @@ pub(crate) fn chucked(
         chuck_meaning(
             alloc, table, scope, line, right.line, operator, value, target,
         )
+    }
+}
+
+/// What is chucked to what an expression stands for.
+#[tactic(auto, using(ck_syntax::proofs::Views::line_is))]
+pub(crate) fn chucked(
+    alloc: Global,
+    table: &Table,
+    scope: &mut Scope,
+    line: u32,
+    operator: ChuckOp,
+    value: Typed,
+    right: &Expr,
+    target: Denoted,
+) -> Result<Typed, TypeFault>
+    requires few { length scope.old.locals < 2 ^ 32 }
+    ensures chucked { Answers (λ t. value_meant t scope.new) result
+        (definition.chucked table.now scope.old line operator (view_typed value)
+        (view_expr right.now) (view_denoted target)) }
+    ensures grown { length scope.new.locals ≤ length scope.old.locals + 1 }
+{
+    match target {
+        Denoted::Auto { name, has_form } => auto_chucked(
+            alloc, table, scope, line, right.line, operator, value, &name, has_form,
+        ),
+        target => other_chucked(alloc, table, scope, line, operator, value, right, target),
     }
 }
 

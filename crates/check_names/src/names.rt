@@ -207,14 +207,19 @@ fn in_fields(
     }
 }
 
-/// A file variable, where top-level code sees it already.
+/// A file variable, where it is seen already, with its type.
 fn seen(scope: &Scope, variable: Option<Variable>) -> Option<Variable>
     ensures { result ≡ definition.seen scope.now variable }
 {
-    match variable {
-        Some(variable) if scope.is_top() && u64::from(variable.index) >= scope.reached() => None,
-        variable => variable,
+    let variable = variable?;
+    let kind = scope.kind_now(variable);
+    if matches!(kind, Kind::Void) {
+        return None;
     }
+    if scope.is_top() && u64::from(variable.index) >= scope.reached() {
+        return None;
+    }
+    Some(Variable { kind, ..variable })
 }
 
 /// A variable of the file.
@@ -400,6 +405,7 @@ fn object_meaning(
             fun,
             slot,
         })),
+        Some(Member::Auto) => Err(scope.wrong(line, FaultKind::UnknownName)),
         None if table.is_event_call(class, name.bytes()) => {
             let name = name.try_clone(alloc)?;
             Ok(Denoted::Callable(Callee::NativeOn {

@@ -8,6 +8,7 @@ use Rattle.ck_values.specs.declared.kind.Kind.{Kind}
 use Rattle.ck_typed.specs.declared.expr.TypedExpr.{TypedExpr}
 use Rattle.ck_typed.specs.Tree.{Expr, Exprs, no_exprs, more_exprs}
 use Rattle.ck_typed.specs.View.{view_expr, exprs_of}
+use Rattle.type_table.specs.Table.{Table}
 use Rattle.check_scope.specs.Expressions.{taken_as, all_taken_as, mismatch, new_array}
 use Rattle.check_scope.specs.Denotations.{Typed}
 use Rattle.check_scope.specs.Scope.{Scope}
@@ -50,8 +51,8 @@ one_more_taken done more e xs x k longer taken so =
     ap exprs_of longer ∙ exprs_more done e ∙ ap (λ es. and_last es (view_expr e)) so ∙ ap (and_last (all_taken_as (all_typed xs) k)) taken ∙ sym (taken_more xs x k)
 
 -- more than two sizes
-pub many_sizes : (s : Scope) (l : ℕ) (e : Elem) (xs : List TypedValue) (before last : TypedValue) → 0 < length xs → new_array s l e (all_typed ((xs ++ before ∷ []) ++ last ∷ [])) ≡ mismatch s l
-many_sizes s l e [] before last some = absurd (omega (arith, some))
-many_sizes s l e (x ∷ []) before last some = refl
-many_sizes s l e (x ∷ y ∷ []) before last some = refl
-many_sizes s l e (x ∷ y ∷ z ∷ xs) before last some = refl
+pub many_sizes : (t : Table) (s : Scope) (l : ℕ) (e : Elem) (xs : List TypedValue) (before last : TypedValue) → 0 < length xs → new_array t s l e (all_typed ((xs ++ before ∷ []) ++ last ∷ [])) ≡ mismatch s l
+many_sizes t s l e [] before last some = absurd (omega (arith, some))
+many_sizes t s l e (x ∷ []) before last some = refl
+many_sizes t s l e (x ∷ y ∷ []) before last some = refl
+many_sizes t s l e (x ∷ y ∷ z ∷ xs) before last some = refl

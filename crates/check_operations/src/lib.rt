@@ -19,7 +19,7 @@ pub use arrays::{array_meaning, item_meaning};
 pub use casts::{cast_meaning, choice_meaning};
 pub use durations::dur_meaning;
 pub use literals::{float, int, text, unit};
-pub use objects::new_meaning;
+pub use objects::{new_meaning, new_with_meaning};
 pub use operators::binary_meaning;
 pub use steps::{postfix_meaning, prefix_meaning};
 pub use words::{unit_in, word_meaning};

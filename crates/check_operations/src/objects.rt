@@ -1,16 +1,16 @@
 //! `new`: objects and arrays.
 ghost use Rattle.std.specs.Prelude.{◌≡◌, [], ◌∷◌};
-ghost use Rattle.ck_values.specs.declared.kind.Elem.TheVariants.{Unit as unit};
 ghost use Rattle.check_scope.specs.Expressions as definition;
 ghost use Rattle.check_scope.specs.View.{view_typed, all_typed, Answers, view_value};
 
 use crate::operators::are_ints;
-use check_scope::{Scope, Typed, is_int, mismatch, value_at};
-use ck_typed::{Binary, Leaf, TypedExpr, Unary};
+use check_calls::object_made;
+use check_scope::{Scope, Typed, is_int, mismatch, typed_at, value_at};
+use ck_base::List;
+use ck_typed::{Binary, TypedExpr, Unary};
 use ck_values::{Elem, Kind};
 use std::alloc::Global;
-use type_table::{FaultKind, Named, TypeFault};
-use ugen_names::UgenKind;
+use type_table::{FaultKind, Named, Table, TypeFault};
 
 /// Whether `new` makes arrays of these.
 fn is_new_item(elem: Elem) -> bool
@@ -22,43 +22,33 @@ fn is_new_item(elem: Elem) -> bool
     )
 }
 
-/// A new unit generator, which isn't a mere `UGen`.
-fn new_ugen(alloc: Global, scope: &Scope, line: u32, kind: UgenKind) -> Result<Typed, TypeFault>
-    ensures { Answers view_value result (definition.new_object scope.now line (unit kind)) }
+/// A new object, made with these arguments.
+fn new_object(
+    alloc: Global,
+    table: &Table,
+    scope: &Scope,
+    line: u32,
+    elem: Elem,
+    arguments: List<Typed>,
+) -> Result<Typed, TypeFault>
+    ensures { Answers view_value result
+        (definition.new_object table.now scope.now line elem (all_typed arguments)) }
 {
-    if kind == UgenKind::UGen {
-        return Err(mismatch(scope, line));
-    }
-    let place = scope.place(line);
-    let new = TypedExpr::Leaf(Leaf::NewUgen(kind), place);
-    value_at(alloc, scope, line, new, Kind::One(Elem::Unit(kind)))
-}
-
-/// A new object.
-fn new_object(alloc: Global, scope: &Scope, line: u32, elem: Elem) -> Result<Typed, TypeFault>
-    ensures { Answers view_value result (definition.new_object scope.now line elem) }
-{
-    match elem {
-        Elem::Class(class) => {
-            let place = scope.place(line);
-            let new = TypedExpr::New { class, place };
-            value_at(alloc, scope, line, new, Kind::One(Elem::Class(class)))
-        }
-        Elem::Unit(kind) => new_ugen(alloc, scope, line, kind),
-        _ => Err(mismatch(scope, line)),
-    }
+    let object = object_made(alloc, table, scope, line, elem, arguments)?;
+    Ok(typed_at(scope, line, object, Kind::One(elem)))
 }
 
 /// A new array of one dimension.
 fn new_row(
     alloc: Global,
+    table: &Table,
     scope: &Scope,
     line: u32,
     elem: Elem,
     size: Typed,
 ) -> Result<Typed, TypeFault>
     ensures { Answers view_value result
-        (definition.new_array scope.now line elem (view_typed size ∷ [])) }
+        (definition.new_array table.now scope.now line elem (view_typed size ∷ [])) }
 {
     if !is_new_item(elem) || !is_int(size.kind) {
         return Err(mismatch(scope, line));
@@ -74,6 +64,7 @@ fn new_row(
 /// A new array of two dimensions.
 fn new_grid(
     alloc: Global,
+    table: &Table,
     scope: &Scope,
     line: u32,
     elem: Elem,
@@ -81,7 +72,7 @@ fn new_grid(
     columns: Typed,
 ) -> Result<Typed, TypeFault>
     ensures { Answers view_value result
-        (definition.new_array scope.now line elem (view_typed rows ∷ view_typed columns ∷ [])) }
+        (definition.new_array table.now scope.now line elem (view_typed rows ∷ view_typed columns ∷ [])) }
 {
     if !is_new_item(elem) || !are_ints(&rows, &columns) {
         return Err(mismatch(scope, line));
@@ -98,22 +89,24 @@ fn new_grid(
 /// A new array of so many dimensions as sizes are given, and without any a new object.
 fn new_array(
     alloc: Global,
+    table: &Table,
     scope: &Scope,
     line: u32,
     elem: Elem,
     mut sizes: Vec<Typed>,
 ) -> Result<Typed, TypeFault>
     ensures { Answers view_value result
-        (definition.new_array scope.now line elem (all_typed sizes.items)) }
+        (definition.new_array table.now scope.now line elem (all_typed sizes.items)) }
 {
     let Some(last) = sizes.pop() else {
-        return new_object(alloc, scope, line, elem);
+        let arguments = List::from_vec(Vec::new(alloc));
+        return new_object(alloc, table, scope, line, elem, arguments);
     };
     let Some(before) = sizes.pop() else {
-        return new_row(alloc, scope, line, elem, last);
+        return new_row(alloc, table, scope, line, elem, last);
     };
     if sizes.is_empty() {
-        new_grid(alloc, scope, line, elem, before, last)
+        new_grid(alloc, table, scope, line, elem, before, last)
     } else {
         Err(mismatch(scope, line))
     }
@@ -122,17 +115,37 @@ fn new_array(
 /// `new T`, and `new T[n]` with its sizes.
 pub fn new_meaning(
     alloc: Global,
+    table: &Table,
     scope: &Scope,
     line: u32,
     named: Named,
     sizes: Vec<Typed>,
 ) -> Result<Typed, TypeFault>
     ensures { Answers view_value result
-        (definition.new_meaning scope.now line named (all_typed sizes.items)) }
+        (definition.new_meaning table.now scope.now line named (all_typed sizes.items)) }
 {
     match named {
         Named::Unknown => Err(scope.wrong(line, FaultKind::UnknownName)),
-        Named::Elem(elem) => new_array(alloc, scope, line, elem, sizes),
+        Named::Elem(elem) => new_array(alloc, table, scope, line, elem, sizes),
+        _ => Err(mismatch(scope, line)),
+    }
+}
+
+/// `new T(arguments)`
+pub fn new_with_meaning(
+    alloc: Global,
+    table: &Table,
+    scope: &Scope,
+    line: u32,
+    named: Named,
+    arguments: List<Typed>,
+) -> Result<Typed, TypeFault>
+    ensures { Answers view_value result
+        (definition.new_with_meaning table.now scope.now line named (all_typed arguments)) }
+{
+    match named {
+        Named::Unknown => Err(scope.wrong(line, FaultKind::UnknownName)),
+        Named::Elem(elem) => new_object(alloc, table, scope, line, elem, arguments),
         _ => Err(mismatch(scope, line)),
     }
 }

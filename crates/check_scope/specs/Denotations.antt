@@ -27,7 +27,7 @@ use Rattle.type_table.specs.declared.table.Variable.{Variable}
 use Rattle.type_table.specs.NameClash.{is_event_call}
 use Rattle.type_table.specs.Names.{built_in, or_else}
 use Rattle.type_table.specs.Table.{Table, class_of, class_named, fun_named, member_named, variable_named}
-use Rattle.check_scope.specs.Scope.{Scope, local_named, local_kind, this_local, place, is_top}
+use Rattle.check_scope.specs.Scope.{Scope, local_named, local_kind, this_local, place, is_top, kind_now}
 
 -- a typed expression: its kind, the place of its first token, and whether it is the literal `null`
 pub record Typed : Type 0 where
@@ -70,6 +70,9 @@ pub data Denotation : Type 0 where
   callable : Callee → Denotation
   a_type : BuiltInName → Denotation
   declared : Declaration → Denotation
+  -- a declaration with `auto`, which takes the kind of what is assigned to it: its name, and whether
+  -- it has the form of one
+  an_auto : Name → (has_form : Bool) → Denotation
 
 abbrev pub one : typed.Expr → Exprs
 one e = more_exprs e no_exprs
@@ -82,6 +85,7 @@ as_value s l (at spot address k) =
 as_value s l (callable c) = wrong s.file l Mismatch
 as_value s l (a_type b) = wrong s.file l Mismatch
 as_value s l (declared d) = gives (typed_as d.alone d.kind (place s l))
+as_value s l (an_auto n has_form) = wrong s.file l BadPlace
 
 -- a name by itself ------------------------------------------------------------------------------
 
@@ -119,10 +123,17 @@ in_fields t s l (Some (member.Field i k)) =
 in_fields t s l (Some (member.Static i k)) = Some (gives (at (spot.Static i) no_exprs k))
 in_fields t s l _ = None
 
--- top-level code sees the file variables that are declared before
+abbrev pub is_void : Kind → Bool
+is_void kind.Void = true
+is_void _ = false
+
+-- top-level code sees the file variables that are declared before, and all code those with `auto`
+-- that are
 abbrev pub seen : Scope → Option Variable → Option Variable
 seen s None = None
-seen s (Some v) = if is_top s && not (nat_lt v.index s.reached) then None else Some v
+seen s (Some v) =
+    if is_void (kind_now s v) || is_top s && not (nat_lt v.index s.reached) then None
+    else Some (record v { kind = kind_now s v })
 
 -- the variables of the file
 abbrev pub in_variables : Table → Scope → (line : ℕ) → Name → Option (Answer Denotation)
@@ -199,6 +210,7 @@ object_meaning t s l o c n (Some (member.Field i k)) = gives (at (spot.Field i) 
 object_meaning t s l o c n (Some (member.Static i k)) = gives (at (spot.StaticOf i) (one o) k)
 object_meaning t s l o c n (Some (member.Fun f None)) = gives (callable (through o f))
 object_meaning t s l o c n (Some (member.Fun f (Some k))) = gives (callable (method o f k))
+object_meaning t s l o c n (Some member.Auto) = wrong s.file l UnknownName
 object_meaning t s l o c n None =
     if is_event_call t c n then gives (callable (native_on o on.Event n))
     else wrong s.file l UnknownName

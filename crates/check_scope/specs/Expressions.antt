@@ -8,6 +8,7 @@ use Rattle.ck_values.specs.declared.kind.Elem.TheVariants as elem
 use Rattle.ck_values.specs.declared.kind.Kind.{Kind}
 use Rattle.ck_values.specs.declared.kind.Kind.TheVariants as kind
 use Rattle.ck_values.specs.declared.trap.Place.{Place}
+use Rattle.ck_syntax.specs.declared.declaration.Base.{Base}
 use Rattle.ck_syntax.specs.declared.declaration.DeclHead.{DeclHead}
 use Rattle.ck_syntax.specs.declared.operator.BinaryOp.{BinaryOp}
 use Rattle.ck_syntax.specs.declared.operator.BinaryOp.TheVariants as binary_op
@@ -15,7 +16,7 @@ use Rattle.ck_syntax.specs.declared.operator.ChuckOp.{ChuckOp}
 use Rattle.ck_syntax.specs.declared.operator.ChuckOp.TheVariants as chuck_op
 use Rattle.ck_syntax.specs.declared.operator.Constant.TheVariants as constant
 use Rattle.ck_syntax.specs.Tree as tree
-use Rattle.ck_syntax.specs.Tree.{Name, Expr, expr_line, Exprs, no_exprs, and_expr, Brackets, no_brackets, and_empty, and_size, declr}
+use Rattle.ck_syntax.specs.Tree.{Name, Expr, expr_line, Exprs, no_exprs, and_expr, Brackets, no_brackets, and_empty, and_size, Declr, declr, declr_with, declr_name}
 use Rattle.ck_typed.specs.declared.expr.Spot.{Spot}
 use Rattle.ck_typed.specs.declared.expr.Spot.TheVariants as spot
 use Rattle.ck_typed.specs.declared.operation.Leaf.TheVariants as leaf
@@ -33,10 +34,12 @@ use Rattle.type_table.specs.declared.table.Member.{Member}
 use Rattle.type_table.specs.declared.table.Member.TheVariants as member
 use Rattle.type_table.specs.declared.table.Variable.{Variable}
 use Rattle.type_table.specs.Table.{Table, fun_of, variable_named}
-use Rattle.type_table.specs.Types.{named_by, is_unknown, is_plain, declared_kind}
-use Rattle.check_scope.specs.Denotations.{Typed, Callee, numbered, through, method, native, native_on, param, yields, exits, Declaration, Denotation, value, at, callable, declared, one, as_value, name_meaning, member_here, member_meaning}
-use Rattle.check_scope.specs.Scope.{Scope, reach, is_declared, with_local, place, this_local, declares_globals}
-pub use Rattle.check_scope.specs.Operations.{is_shred, is_int, fits, widened, taken_as, this_value, word_meaning, Samples, samples, samples_of, whole_samples, unit_in, value_at, mismatch, beside, widened_if, joined_meaning, join_meaning, append_meaning, shift_meaning, are_ints, binary_meaning, negated, inverted, stepped, prefix_meaning, postfix_meaning, units_meaning, times_meaning, dur_meaning, cast_value, cast_to, cast_meaning, choice_of, choice_between, choice_meaning, all_taken_as, all_fit, is_row_with, is_row_of, items_meaning, rows_meaning, array_of, array_meaning, item_at, item_meaning, is_new_item, new_object, new_array, new_meaning, and_fitting, fitted, called, native_call, may_take, param_call, plain_call, callee_meaning, call_meaning, sporked, spork_meaning}
+use Rattle.type_table.specs.declared.types.Named.{Named}
+use Rattle.type_table.specs.Names.{is_some}
+use Rattle.type_table.specs.Types.{named_by, is_unknown, is_plain, has_none, written_kind}
+use Rattle.check_scope.specs.Denotations.{Typed, Callee, numbered, through, method, native, native_on, param, yields, exits, Declaration, Denotation, value, at, callable, declared, an_auto, is_void, one, as_value, name_meaning, member_here, member_meaning}
+use Rattle.check_scope.specs.Scope.{Scope, reach, settle, kind_now, is_declared, with_local, place, this_local, declares_globals}
+pub use Rattle.check_scope.specs.Operations.{is_shred, is_int, fits, widened, taken_as, this_value, word_meaning, Samples, samples, samples_of, whole_samples, unit_in, value_at, mismatch, beside, widened_if, joined_meaning, join_meaning, append_meaning, shift_meaning, are_ints, binary_meaning, negated, inverted, stepped, prefix_meaning, postfix_meaning, units_meaning, times_meaning, dur_meaning, cast_value, cast_to, cast_meaning, choice_of, choice_between, choice_meaning, all_taken_as, all_fit, is_row_with, is_row_of, items_meaning, rows_meaning, array_of, array_meaning, item_at, item_meaning, and_fitting, fitted, constructed, made_by, object_made, made_alone, maker_of, is_new_item, new_object, new_array, new_meaning, new_with_meaning, called, native_call, may_take, param_call, plain_call, callee_meaning, call_meaning, sporked, spork_meaning}
 
 -- declarations ----------------------------------------------------------------------------------
 
@@ -46,67 +49,85 @@ elem_of (kind.Row e) = e
 elem_of (kind.Grid e) = e
 elem_of _ = elem.Int
 
+-- what a declaration makes its first value of: the sizes in its brackets, or the arguments of a
+-- constructor
+pub data Making : Type 0 where
+  with_sizes : List Typed → Making
+  with_arguments : List Typed → Making
+
 -- the first value of a variable without brackets and `@`
-abbrev pub default_value : Elem → Place → typed.Expr
-default_value elem.Int p = typed.Leaf (leaf.Int (pos 0)) p
-default_value elem.Float p = typed.Leaf (leaf.Float (pos 0)) p
-default_value elem.Dur p = typed.Leaf (leaf.Dur (pos 0)) p
-default_value elem.Time p = typed.Leaf (leaf.Time (pos 0)) p
-default_value elem.Text p = typed.Text [] p
-default_value elem.Shred p = typed.Leaf leaf.NoShred p
-default_value (elem.Class c) p = typed.New c p
-default_value (elem.Unit k) p = typed.Leaf (leaf.NewUgen k) p
+abbrev pub default_value : Table → Scope → (line : ℕ) → Elem → Answer typed.Expr
+default_value t s l elem.Int = gives (typed.Leaf (leaf.Int (pos 0)) (place s l))
+default_value t s l elem.Float = gives (typed.Leaf (leaf.Float (pos 0)) (place s l))
+default_value t s l elem.Dur = gives (typed.Leaf (leaf.Dur (pos 0)) (place s l))
+default_value t s l elem.Time = gives (typed.Leaf (leaf.Time (pos 0)) (place s l))
+default_value t s l elem.Text = gives (typed.Text [] (place s l))
+default_value t s l elem.Shred = gives (typed.Leaf leaf.NoShred (place s l))
+default_value t s l e = object_made t s l e []
 
 -- with `@`
 abbrev pub null_of : Kind → Place → typed.Expr
 null_of (kind.One elem.Shred) p = typed.Leaf leaf.NoShred p
 null_of _ p = typed.Leaf leaf.Null p
 
-abbrev pub row_of : (is_reference : Bool) → Elem → typed.Expr → Place → typed.Expr
-row_of is_reference e n p =
-    if is_reference || is_plain e then typed.Unary (unary.NewRow e) n p else typed.NewObjects e n p
+-- an array of plain values or of nulls, or of objects
+abbrev pub row_of : Table → Scope → (line : ℕ) → (is_reference : Bool) → Elem → typed.Expr →
+    Answer typed.Expr
+row_of t s l is_reference e n =
+    if is_reference || is_plain e then gives (typed.Unary (unary.NewRow e) n (place s l))
+    else and_then (maker_of t s l e) (λ f. gives (typed.NewObjects e n f (place s l)))
 
 -- the first value of a declaration
-abbrev pub first_value : (is_reference : Bool) → Kind → List Typed → Place → typed.Expr
-first_value r k (n ∷ m ∷ rest) p = typed.Binary (binary.NewGrid (elem_of k)) n.expr m.expr p
-first_value r k (n ∷ []) p = row_of r (elem_of k) n.expr p
-first_value false (kind.One e) [] p = default_value e p
-first_value r k [] p = null_of k p
+abbrev pub first_value : Table → Scope → (line : ℕ) → (is_reference : Bool) → Kind → Making →
+    Answer typed.Expr
+first_value t s l r k (with_sizes (n ∷ m ∷ rest)) =
+    gives (typed.Binary (binary.NewGrid (elem_of k)) n.expr m.expr (place s l))
+first_value t s l r k (with_sizes (n ∷ [])) = row_of t s l r (elem_of k) n.expr
+first_value t s l false (kind.One e) (with_sizes []) = default_value t s l e
+first_value t s l r k (with_sizes []) = gives (null_of k (place s l))
+first_value t s l r k (with_arguments xs) = object_made t s l (elem_of k) xs
 
 abbrev pub is_object : Kind → Bool
 is_object (kind.One e) = is_reference e
 is_object _ = false
 
 -- it makes an object or has a size
-abbrev pub makes_object : (is_reference : Bool) → Kind → List Typed → Bool
-makes_object r k [] = not r && is_object k
-makes_object r k (n ∷ rest) = true
+abbrev pub makes_object : (is_reference : Bool) → Kind → Making → Bool
+makes_object r k (with_sizes []) = not r && is_object k
+makes_object r k _ = true
 
-abbrev pub declared_at : Spot → typed.Exprs → (is_reference : Bool) → Kind → List Typed → Place →
-    Denotation
-declared_at spot address r k sizes p =
-    declared (record {
+abbrev pub declared_at : Table → Scope → (line : ℕ) → Spot → typed.Exprs → (is_reference : Bool) →
+    Kind → Making → Answer Denotation
+declared_at t s l spot address r k making =
+    and_then (first_value t s l r k making) (λ first.
+    gives (declared (record {
       spot = spot;
       address = address;
       kind = k;
       alone =
-          typed.Assign (first_value r k sizes p) spot address p;
-      makes = makes_object r k sizes;
-    })
+          typed.Assign first spot address (place s l);
+      makes = makes_object r k making;
+    })))
 
 -- the declaration of a static member by itself leaves it as it is
-abbrev pub declared_static : ℕ → (is_reference : Bool) → Kind → List Typed → Place → Denotation
-declared_static i r k sizes p =
+abbrev pub declared_static : ℕ → (is_reference : Bool) → Kind → Making → Place → Denotation
+declared_static i r k making p =
     declared (record {
       spot = spot.Static i;
       address = typed.no_exprs;
       kind = k;
       alone = typed.Variadic (variadic.Read (spot.Static i)) typed.no_exprs p;
-      makes = makes_object r k sizes;
+      makes = makes_object r k making;
     })
 
-abbrev pub sizes_are_ints : List Typed → Bool
-sizes_are_ints xs = list_all (λ x. is_int x.kind) xs
+abbrev pub sizes_are_ints : Making → Bool
+sizes_are_ints (with_sizes xs) = list_all (λ x. is_int x.kind) xs
+sizes_are_ints (with_arguments xs) = true
+
+-- only members are static, and what is constructed has no `@`
+abbrev pub has_place : DeclHead → Making → Bool
+has_place h (with_sizes xs) = not h.is_static
+has_place h (with_arguments xs) = not h.is_static && not h.is_reference
 
 -- what an expression stands for, and the scope behind it
 pub record Meant : Type 0 where
@@ -116,59 +137,81 @@ pub record Meant : Type 0 where
 abbrev pub in_scope : Scope → Answer Denotation → Answer Meant
 in_scope s a = and_then a (λ m. gives (record { means = m; scope = s }))
 
-abbrev pub declared_field : Scope → (line : ℕ) → (field : ℕ) → (is_reference : Bool) → Kind →
-    List Typed → Option ℕ → Answer Denotation
-declared_field s l i r k sizes None = wrong s.file l BadPlace
-declared_field s l i r k sizes (Some this) =
-    gives (declared_at (spot.Field i)
+abbrev pub declared_field : Table → Scope → (line : ℕ) → (field : ℕ) → (is_reference : Bool) →
+    Kind → Making → Option ℕ → Answer Denotation
+declared_field t s l i r k making None = wrong s.file l BadPlace
+declared_field t s l i r k making (Some this) =
+    declared_at t s l (spot.Field i)
     (one (typed.Variadic (variadic.Read (spot.Local this)) typed.no_exprs (place s l)))
-    r k sizes (place s l))
+    r k making
 
-abbrev pub declared_member : Table → Scope → (line : ℕ) → DeclHead → List Typed → Option Member →
+abbrev pub declared_member : Table → Scope → (line : ℕ) → DeclHead → Making → Option Member →
     Answer Denotation
-declared_member t s l h sizes (Some (member.Field i k)) =
-    declared_field s l i h.is_reference k sizes (this_local t s)
-declared_member t s l h sizes (Some (member.Static i k)) =
-    gives (declared_static i h.is_reference k sizes (place s l))
-declared_member t s l h sizes _ = wrong s.file l UnknownName
+declared_member t s l h making (Some (member.Field i k)) =
+    declared_field t s l i h.is_reference k making (this_local t s)
+declared_member t s l h making (Some (member.Static i k)) =
+    gives (declared_static i h.is_reference k making (place s l))
+declared_member t s l h making _ = wrong s.file l UnknownName
 
-abbrev pub declared_variable : Scope → (line : ℕ) → DeclHead → List Typed → Option Variable →
+abbrev pub declared_variable : Table → Scope → (line : ℕ) → DeclHead → Making → Option Variable →
     Answer Meant
-declared_variable s l h sizes None = wrong s.file l UnknownName
-declared_variable s l h sizes (Some v) =
-    gives (record {
-      means = declared_at (spot.Static v.index) typed.no_exprs h.is_reference v.kind
-          sizes (place s l);
-      scope = reach s (v.index + 1);
-    })
+declared_variable t s l h making None = wrong s.file l UnknownName
+declared_variable t s l h making (Some v) =
+    in_scope (reach s (v.index + 1))
+    (declared_at t s l (spot.Static v.index) typed.no_exprs h.is_reference v.kind making)
 
-abbrev pub declared_global : Table → Scope → (line : ℕ) → DeclHead → Name → List Typed → Option ℕ →
+abbrev pub declared_global : Table → Scope → (line : ℕ) → DeclHead → Name → Making → Option ℕ →
     Answer Meant
-declared_global t s l h n sizes None = declared_variable s l h sizes (variable_named t s.file n)
-declared_global t s l h n sizes (Some c) =
-    in_scope s (declared_member t s l h sizes (member_here t (Some c) n))
+declared_global t s l h n making None =
+    declared_variable t s l h making (variable_named t s.file n)
+declared_global t s l h n making (Some c) =
+    in_scope s (declared_member t s l h making (member_here t (Some c) n))
 
-abbrev pub declared_local : Scope → (line : ℕ) → DeclHead → Name → List Typed → Option Kind →
+abbrev pub declared_local : Table → Scope → (line : ℕ) → DeclHead → Name → Making → Option Kind →
     Answer Meant
-declared_local s l h n sizes None = wrong s.file l Mismatch
-declared_local s l h n sizes (Some k) =
-    if not (sizes_are_ints sizes) then wrong s.file l Mismatch
-    else if h.is_static then wrong s.file l BadPlace
-    else gives (record {
-      means = declared_at (spot.Local (length s.locals)) typed.no_exprs
-          h.is_reference k sizes (place s l);
-      scope = with_local s n k;
-    })
+declared_local t s l h n making None = wrong s.file l Mismatch
+declared_local t s l h n making (Some k) =
+    if not (sizes_are_ints making) then wrong s.file l Mismatch
+    else and_then
+    (declared_at t s l (spot.Local (length s.locals)) typed.no_exprs h.is_reference k making) (λ m.
+    if has_place h making then gives (record { means = m; scope = with_local s n k })
+    else wrong s.file l BadPlace)
 
-abbrev pub declaration_meaning : Table → Scope → (line : ℕ) → DeclHead → Name → Brackets →
-    List Typed → Answer Meant
-declaration_meaning t s l h n bs sizes =
+-- `auto` is written with nothing but its name, and is no member of a class
+abbrev pub is_bare : Declr → Bool
+is_bare (declr n bs) = has_none bs
+is_bare (declr_with n es) = false
+
+abbrev pub has_auto_form : Scope → DeclHead → Declr → Bool
+has_auto_form s h x =
+    not h.is_static && not h.is_reference && is_bare x
+    && not (declares_globals s && is_some s.class)
+
+-- it isn't declared before it has a kind
+abbrev pub auto_meaning : Scope → (line : ℕ) → DeclHead → Declr → Answer Meant
+auto_meaning s l h x =
+    if not (declares_globals s) && is_declared s (declr_name x) then wrong s.file l Duplicate
+    else gives (record { means = an_auto (declr_name x) (has_auto_form s h x); scope = s })
+
+abbrev pub declared_as : Table → Scope → (line : ℕ) → DeclHead → Declr → Making → Named →
+    Answer Meant
+declared_as t s l h x making named =
     if declares_globals s
-    then (if sizes_are_ints sizes then declared_global t s l h n sizes s.class
+    then (if sizes_are_ints making then declared_global t s l h (declr_name x) making s.class
     else wrong s.file l Mismatch)
-    else if is_unknown (named_by t s.file h.base) then wrong s.file l UnknownName
-    else if is_declared s n then wrong s.file l Duplicate
-    else declared_local s l h n sizes (declared_kind h (named_by t s.file h.base) bs)
+    else if is_unknown named then wrong s.file l UnknownName
+    else if is_declared s (declr_name x) then wrong s.file l Duplicate
+    else declared_local t s l h (declr_name x) making (written_kind h named x)
+
+abbrev pub declared_with : Table → Scope → (line : ℕ) → DeclHead → Declr → Making → Option Base →
+    Answer Meant
+declared_with t s l h x making None = auto_meaning s l h x
+declared_with t s l h x making (Some base) =
+    declared_as t s l h x making (named_by t s.file base)
+
+abbrev pub declaration_meaning : Table → Scope → (line : ℕ) → DeclHead → Declr → Making →
+    Answer Meant
+declaration_meaning t s l h x making = declared_with t s l h x making h.base
 
 -- the chuck operator ----------------------------------------------------------------------------
 
@@ -348,6 +391,60 @@ abbrev pub member_or_wait : Table → Scope → (line object_line : ℕ) → Den
 member_or_wait t s l k m n (Some c) = gives (callable c)
 member_or_wait t s l k m n None = member_meaning t s l k m n
 
+-- to a declaration with `auto` -----------------------------------------------------------------
+
+-- the value is assigned to what has been declared here with its kind
+abbrev pub assigned_to : Spot → Typed → (line : ℕ) → Scope → Answer Meant
+assigned_to to x l s =
+    in_scope s (value_at s l (typed.Assign x.expr to typed.no_exprs (place s l)) x.kind)
+
+abbrev pub auto_variable : Scope → (line auto_line : ℕ) → Typed → Option Variable → Answer Meant
+auto_variable s l k x None = wrong s.file k UnknownName
+auto_variable s l k x (Some v) =
+    if is_void (kind_now s v) then assigned_to (spot.Static v.index) x l (settle s v.index x.kind)
+    else wrong s.file k Duplicate
+
+-- a class has no such member
+abbrev pub auto_global : Table → Scope → (line auto_line : ℕ) → Typed → Name → Option ℕ →
+    Answer Meant
+auto_global t s l k x n None = auto_variable s l k x (variable_named t s.file n)
+auto_global t s l k x n (Some c) = wrong s.file k BadPlace
+
+abbrev pub auto_declared : Table → Scope → (line auto_line : ℕ) → Typed → Name → Answer Meant
+auto_declared t s l k x n =
+    if declares_globals s then auto_global t s l k x n s.class
+    else if is_declared s n then wrong s.file k Duplicate
+    else assigned_to (spot.Local (length s.locals)) x l (with_local s n x.kind)
+
+-- void, and the literal `null`, are no types of a variable
+abbrev pub is_no_type : Kind → Bool
+is_no_type kind.Void = true
+is_no_type kind.Null = true
+is_no_type _ = false
+
+abbrev pub auto_assigned : Table → Scope → (line auto_line : ℕ) → (takes_references : Bool) →
+    Typed → Name → (has_form : Bool) → Answer Meant
+auto_assigned t s l k takes_references x n has_form =
+    if is_no_type x.kind then wrong s.file k Mismatch
+    else if not has_form then wrong s.file k BadPlace
+    else if not takes_references && are_references x.kind then wrong s.file l NotAssignable
+    else auto_declared t s l k x n
+
+-- only `=>` and `@=>` give a kind
+abbrev pub auto_chucked : Table → Scope → (line auto_line : ℕ) → ChuckOp → Typed → Name →
+    (has_form : Bool) → Answer Meant
+auto_chucked t s l k chuck_op.Chuck x n has_form = auto_assigned t s l k false x n has_form
+auto_chucked t s l k chuck_op.Assign x n has_form = auto_assigned t s l k true x n has_form
+auto_chucked t s l k _ x n has_form = wrong s.file k BadPlace
+
+abbrev pub chucked : Table → Scope → (line : ℕ) → ChuckOp → Typed → Expr → Denotation →
+    Answer Meant
+chucked t s l o x b (an_auto n has_form) = auto_chucked t s l (expr_line b) o x n has_form
+chucked t s l o x b m =
+    in_scope s
+    (if is_now b then now_meaning t.parents s l o x
+    else chuck_meaning t s l (expr_line b) o x m)
+
 -- all expressions -------------------------------------------------------------------------------
 
 -- an expression's value, and the scope behind it
@@ -413,7 +510,10 @@ abbrev mutual
       in_scope m.scope (prefix_meaning m.scope l (expr_line e) o m.means))
   meaning t s (tree.new l b es) =
       and_then (values t s es) (λ xs.
-      in_scope xs.scope (new_meaning xs.scope l (named_by t xs.scope.file b) xs.typed))
+      in_scope xs.scope (new_meaning t xs.scope l (named_by t xs.scope.file b) xs.typed))
+  meaning t s (tree.new_with l b es) =
+      and_then (values t s es) (λ xs.
+      in_scope xs.scope (new_with_meaning t xs.scope l (named_by t xs.scope.file b) xs.typed))
   meaning t s (tree.spork l (tree.call k f es)) =
       and_then (meaning t s f) (λ m.
       and_then (values t m.scope es) (λ xs.
@@ -437,13 +537,14 @@ abbrev mutual
       in_scope z.scope (choice_meaning t.parents z.scope l x.typed y.typed z.typed))))
   meaning t s (tree.declare l h (declr n bs)) =
       and_then (sizes t s bs) (λ xs.
-      declaration_meaning t xs.scope l h n bs xs.typed)
+      declaration_meaning t xs.scope l h (declr n bs) (with_sizes xs.typed))
+  meaning t s (tree.declare l h (declr_with n es)) =
+      and_then (values t s es) (λ xs.
+      declaration_meaning t xs.scope l h (declr_with n es) (with_arguments xs.typed))
   meaning t s (tree.chuck l a o b) =
       and_then (value_of (expr_line a) (meaning t s a)) (λ x.
       and_then (meaning t x.scope b) (λ m.
-      in_scope m.scope
-      (if is_now b then now_meaning t.parents m.scope l o x.typed
-      else chuck_meaning t m.scope l (expr_line b) o x.typed m.means)))
+      chucked t m.scope l o x.typed b m.means))
 
   -- the values of a list
   pub values : Table → Scope → Exprs → Answer AllValued

@@ -1,31 +1,38 @@
 -- Where an expression stands: its file, class and function, and the names declared around it.
-use Rattle.std.specs.Prelude.{ℕ, Bool, true, false, ◌&&◌, not, List, [], ◌∷◌, ◌++◌, length, Option, Some, None, slice_get, max, if◌then◌else◌}
+use Rattle.std.specs.Prelude.{◌≡◌, ℕ, ◌+◌, nat_eq, Bool, true, false, ◌&&◌, not, List, [], ◌∷◌, ◌++◌, length, find, Option, Some, None, slice_get, max, if◌then◌else◌}
+use Rattle.std.specs.BTreeMap.{BTreeMap, IsOrdered, get}
+use Rattle.std.specs.Option.{option_map}
+use Rattle.std.specs.Ordering.{nat_cmp}
 use Rattle.ck_values.specs.declared.kind.Kind.{Kind}
 use Rattle.ck_values.specs.declared.kind.Kind.TheVariants.{Void}
 use Rattle.ck_values.specs.declared.trap.Place.{Place}
 use Rattle.ck_syntax.specs.Tree.{Name}
+use Rattle.type_table.specs.declared.table.Variable.{Variable}
 use Rattle.type_table.specs.Names.{lookup, is_some, or_else}
 use Rattle.type_table.specs.Table.{Table, fun_of}
 
--- the file variables below the number `reached` were declared before; the kinds of all locals
--- declared so far, in order; and the locals by name: those of the function's own level, and of each
--- open block, the innermost last
+-- the file variables below the number `reached` were declared before; the kinds that declarations
+-- with `auto` gave to file variables so far, by their numbers; the kinds of all locals declared so
+-- far, in order; and the locals by name: those of the function's own level, and of each open block,
+-- the innermost last
 pub record Scope : Type 0 where
   pub file : ℕ
   pub class : Option ℕ
   pub fun : Option ℕ
   pub reached : ℕ
+  pub settled : List (ℕ × Kind)
   pub locals : List Kind
   pub own : List (Name × ℕ)
   pub blocks : List (List (Name × ℕ))
 
-abbrev pub new_scope : (file : ℕ) → (class fun : Option ℕ) → Scope
-new_scope file class fun =
+abbrev pub new_scope : (file : ℕ) → (class fun : Option ℕ) → (settled : List (ℕ × Kind)) → Scope
+new_scope file class fun settled =
     record {
       file = file;
       class = class;
       fun = fun;
       reached = 0;
+      settled = settled;
       locals = [];
       own = [];
       blocks = [];
@@ -34,6 +41,27 @@ new_scope file class fun =
 -- the file variables below this number are seen
 abbrev pub reach : Scope → ℕ → Scope
 reach s statics = record s { reached = max s.reached statics }
+
+-- a declaration with `auto` gives a file variable its kind, and it is seen from then on
+abbrev pub settle : Scope → ℕ → Kind → Scope
+settle s i k = record (reach s (i + 1)) { settled = s.settled ++ (i, k) ∷ [] }
+
+-- the kind of a file variable: the one that was settled, or else that of the table
+abbrev pub settled_or : Kind → Option (ℕ × Kind) → Kind
+settled_or k None = k
+settled_or k (Some settled) = settled.1
+
+-- the first of this number
+abbrev pub settled_at : ℕ → List (ℕ × Kind) → Option (ℕ × Kind)
+settled_at i settled = find (λ one. nat_eq one.0 i) settled
+
+-- a map from numbers to their kinds has just these, in order of the numbers
+pub record AreFound (kinds : BTreeMap ℕ Kind) (settled : List (ℕ × Kind)) : Type 0 where
+  pub ordered : IsOrdered nat_cmp kinds
+  pub found : (i : ℕ) → get nat_cmp kinds i ≡ option_map (λ one. one.1) (settled_at i settled)
+
+abbrev pub kind_now : Scope → Variable → Kind
+kind_now s v = settled_or v.kind (settled_at v.index s.settled)
 
 abbrev pub with_block : Scope → Scope
 with_block s = record s { blocks = s.blocks ++ [] ∷ [] }
@@ -116,3 +144,7 @@ is_top s = not (is_some s.class) && not (is_some s.fun)
 -- in no block
 abbrev pub declares_globals : Scope → Bool
 declares_globals s = not (is_some s.fun) && is_empty s.blocks
+
+-- only what declares file variables settles any
+abbrev pub settles : Scope → Bool
+settles s = declares_globals s && not (is_some s.class)

@@ -9,8 +9,10 @@ use Rattle.check_scope.specs.declared.denoted.Callee.TheVariants as callee
 use Rattle.check_scope.specs.declared.denoted.Declaration.{Declaration as Declared}
 use Rattle.check_scope.specs.declared.denoted.Denoted.{Denoted}
 use Rattle.check_scope.specs.declared.denoted.Denoted.TheVariants as denoted
+use Rattle.check_scope.specs.declared.denoted.Making.{Making as Makes}
+use Rattle.check_scope.specs.declared.denoted.Making.TheVariants as makes
 use Rattle.check_scope.specs.declared.typed.Typed.{Typed as TypedValue}
-use Rattle.check_scope.specs.Expressions.{Meant, Valued, AllValued}
+use Rattle.check_scope.specs.Expressions.{Making, with_sizes, with_arguments, Meant, Valued, AllValued}
 use Rattle.check_scope.specs.Denotations as m
 use Rattle.check_scope.specs.Denotations.{Typed, Callee, Declaration, Denotation}
 use Rattle.check_scope.specs.Scope.{Scope}
@@ -25,6 +27,11 @@ view_value x = m.value (view_typed x)
 abbrev pub all_typed : List TypedValue → List Typed
 all_typed [] = []
 all_typed (x ∷ xs) = view_typed x ∷ all_typed xs
+
+-- what a first value is made of
+abbrev pub view_making : Makes → Making
+view_making (makes.Sizes xs) = with_sizes (all_typed xs)
+view_making (makes.Arguments xs) = with_arguments (all_typed xs)
 
 abbrev pub view_callee : Callable → Callee
 view_callee (callee.Numbered f) = m.numbered f
@@ -52,9 +59,14 @@ view_denoted (denoted.Target x) = m.at x.spot (exprs_of x.address) x.kind
 view_denoted (denoted.Callable c) = m.callable (view_callee c)
 view_denoted (denoted.Named b) = m.a_type b
 view_denoted (denoted.Declared d) = m.declared (view_declaration d)
+view_denoted (denoted.Auto n has_form) = m.an_auto n has_form
 
 abbrev pub meant : Denoted → Scope → Meant
 meant m s = record { means = view_denoted m; scope = s }
+
+-- a value, and the scope behind it
+abbrev pub value_meant : TypedValue → Scope → Meant
+value_meant x s = record { means = view_value x; scope = s }
 
 abbrev pub valued : TypedValue → Scope → Valued
 valued x s = record { typed = view_typed x; scope = s }

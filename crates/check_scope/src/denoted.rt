@@ -69,6 +69,15 @@ pub struct Declaration {
     pub makes: bool,
 }
 
+/// What a declaration makes its first value of.
+#[derive(Drop)]
+pub enum Making {
+    /// The sizes in its brackets.
+    Sizes(List<Typed>),
+    /// The arguments of a constructor.
+    Arguments(List<Typed>),
+}
+
 /// What an expression stands for.
 #[derive(Drop)]
 pub enum Denoted {
@@ -78,6 +87,12 @@ pub enum Denoted {
     /// A class, or another name that every program has.
     Named(BuiltInName),
     Declared(Declaration),
+    /// A declaration with `auto`, which takes the type of what is assigned to it.
+    Auto {
+        name: Text,
+        /// Whether it is written with nothing but its name, and is no member of a class.
+        has_form: bool,
+    },
 }
 
 /// The value of what an expression at a line stands for.
@@ -104,6 +119,7 @@ pub fn as_value(
         }
         Denoted::Callable(_) => Err(scope.wrong(line, FaultKind::Mismatch)),
         Denoted::Named(_) => Err(scope.wrong(line, FaultKind::Mismatch)),
+        Denoted::Auto { .. } => Err(scope.wrong(line, FaultKind::BadPlace)),
         Denoted::Declared(declaration) => Ok(Typed {
             expr: declaration.alone,
             kind: declaration.target.kind,

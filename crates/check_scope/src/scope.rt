@@ -1,17 +1,19 @@
 //! Where an expression stands.
 ghost use Rattle.std.specs.Prelude.{◌≡◌, ◌+◌, ◌^◌, ◌<◌, ◌≤◌, [], ◌∷◌, ◌++◌, length, None, true, false, OnOk, OnErr, IfOk, IfErr};
-ghost use Rattle.check_scope.specs.Scope.{new_scope, reach, with_block, without_block, local_named, local_in, last_or, is_declared, with_local, own_with, with_last, local_kind, is_static_fun, this_local, is_top, declares_globals, place as place_of};
+ghost use Rattle.check_scope.specs.Scope.{new_scope, reach, settle, kind_now, with_block, without_block, local_named, local_in, last_or, is_declared, with_local, own_with, with_last, local_kind, is_static_fun, this_local, is_top, declares_globals, place as place_of};
 ghost use Rattle.type_table.specs.Answer.{IsFault};
 ghost use Rattle.type_table.specs.Names.{lookup};
 ghost use Rattle.type_table.specs.declared.fault.FaultKind.TheVariants.{Duplicate};
 ghost use Rattle.fixed_point.specs.Wanting.{out_of_memory};
 ghost use Rattle.type_table.specs.declared.fault.TypeFault.TheVariants.{Typing as typing, Memory as memory};
 
+use crate::settled::Settled;
 use ck_base::{List, Text};
 use ck_values::{Kind, Place};
 use std::alloc::Global;
 use std::marker::Model;
-use type_table::{ByName, FaultKind, Table, TypeFault};
+use std::mem;
+use type_table::{ByName, FaultKind, Table, TypeFault, Variable};
 
 /// The names declared around an expression. Each is found by its hash.
 #[derive(Drop)]
@@ -22,6 +24,8 @@ pub struct Scope {
     /// The file variables below this number were declared before: it can be one more than any of
     /// theirs.
     reached: u64,
+    /// The types that declarations with `auto` gave to file variables so far.
+    settled: Settled,
     /// The types of all locals declared so far.
     locals: List<Kind>,
     /// The numbers of the locals of the function's own level, by their names.
@@ -40,6 +44,7 @@ impl Model for Scope {
       class = s.class;
       fun = s.fun;
       reached = s.reached;
+      settled = s.settled;
       locals = s.locals;
       own = s.own;
       blocks = s.blocks.items;
@@ -57,15 +62,23 @@ fn is_static_fun(table: &Table, fun: Option<u32>) -> bool
 }
 
 impl Scope {
-    /// The scope of a function, of a class's statements, or of a file's. It takes no memory.
-    pub fn new(alloc: Global, file: u32, class: Option<u32>, fun: Option<u32>) -> Scope
-        ensures { result ≡ new_scope file class fun }
+    /// The scope of a function, of a class's statements, or of a file's, where these types were
+    /// settled before. It takes no memory.
+    pub fn new(
+        alloc: Global,
+        file: u32,
+        class: Option<u32>,
+        fun: Option<u32>,
+        settled: Settled,
+    ) -> Scope
+        ensures { result ≡ new_scope file class fun settled }
     {
         Scope {
             file,
             class,
             fun,
             reached: 0,
+            settled,
             locals: List::from_vec(Vec::new(alloc)),
             own: ByName::new(alloc),
             blocks: Vec::new(alloc),
@@ -77,6 +90,54 @@ impl Scope {
         ensures { self.new ≡ reach self.old statics }
     {
         self.reached = self.reached.max(statics);
+    }
+
+    /// A declaration with `auto` gives a file variable its type, and it is seen from then on.
+    /// Without memory for it nothing changes.
+    pub fn settle(&mut self, index: u32, kind: Kind) -> Result<(), TypeFault>
+        ensures settled { OnOk result (self.new ≡ settle self.old index kind) }
+        ensures kept { OnErr result (self.new ≡ self.old) }
+        ensures memory { IfErr result (λ why. why ≡ memory out_of_memory) }
+    {
+        self.settled.add(index, kind)?;
+        self.reach(u64::from(index) + 1);
+        Ok(())
+    }
+
+    /// The type of a file variable: the one that was settled, or else that of the table.
+    pub fn kind_now(&self, variable: Variable) -> Kind
+        ensures { result ≡ kind_now self.now variable }
+    {
+        self.settled.kind_or(variable.index, variable.kind)
+    }
+
+    /// Lends what was settled to another scope.
+    pub fn lend_settled(&mut self, alloc: Global) -> Settled
+        ensures lent { result ≡ self.old.settled }
+        ensures left { self.new ≡ record self.old { settled = [] } }
+    {
+        mem::replace(&mut self.settled, Settled::none(alloc))
+    }
+
+    /// Gives back what was lent.
+    pub fn with_settled(&mut self, settled: Settled)
+        ensures { self.new ≡ record self.old { settled = settled } }
+    {
+        self.settled = settled;
+    }
+
+    /// What was settled.
+    pub fn settled(&self) -> &Settled
+        ensures { result.now ≡ self.now.settled }
+    {
+        &self.settled
+    }
+
+    /// What was settled in the scope, which isn't wanted any more. It takes no memory.
+    pub fn into_settled(self) -> Settled
+        ensures { result ≡ self.settled }
+    {
+        self.settled
     }
 
     /// Opens a block. Without memory for it nothing changes.

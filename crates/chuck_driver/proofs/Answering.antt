@@ -1,6 +1,6 @@
 -- What a command answers over what its files say.
 use Rattle.std.proofs.Common.{◌≡◌, ℕ, zero, suc, ◌<◌, List, [], ◌∷◌, String, Option, Some, None}
-use Rattle.std.proofs.Common.{Bool, true, false, if◌then◌else◌, length, map, refl}
+use Rattle.std.proofs.Common.{Bool, true, false, if◌then◌else◌, length, map, refl, codes}
 use Rattle.std.proofs.Common.{sym, ap, ◌∙◌, subst, arith}
 use Rattle.std.specs.Prelude.{slice_get, is_some, IfSome}
 use Rattle.std.specs.List.{list_any}
@@ -22,8 +22,10 @@ use Rattle.run_report.specs.declared.report.Report.{Report}
 use Rattle.run_report.specs.declared.report.Report.TheVariants.{Wakes as Slices, Text, Numbers}
 use Rattle.run_report.specs.declared.status.Status.{Status}
 use Rattle.run_report.specs.declared.status.Status.TheVariants.{Done, Trapped, Memory}
-use Rattle.program_answers.specs.Answer.{WholeAnswer, refusal_at}
-use Rattle.chuck_driver.specs.Answer.{first_refusal}
+use Rattle.program_answers.specs.Answer.{WholeAnswer, refusal, refusal_at}
+use Rattle.chuck_driver.specs.Answer.{first_refusal, first_unbuilt, unbuilt}
+use Rattle.chuck_driver.specs.Unbuilt.{IsUnbuilt}
+use Rattle.built_forms.specs.Built.{is_built}
 use Rattle.program_answers.specs.Answer.{program_answer, load_samples, type_refusal}
 use Rattle.program_answers.specs.Answer.{answer_of_program}
 use Rattle.chuck_driver.specs.Answer.{answer_of_typing, trees_of, answer_of_trees, answer_of}
@@ -65,15 +67,48 @@ plain_refusal : (names : List (List ℕ)) (why : typing.Fault)
     → IsPlain (type_refusal names why).status
 plain_refusal names why = tt
 
-plain_typing : (command : Command) (sheet : List ℕ) (names : List (List ℕ))
-    (found : typing.Answer Program) → IsPlain (answer_of_typing command sheet names found).status
-plain_typing command sheet names (typing.gives program) = plain_program command sheet names program
-plain_typing command sheet names (typing.refused why) = plain_refusal names why
+plain_or : (o : Option WholeAnswer) (answer : WholeAnswer)
+    → ((a : WholeAnswer) → o ≡ Some a → IsPlain a.status) → IsPlain answer.status
+    → IsPlain (or_answer o answer).status
+plain_or None answer refused fine = fine
+plain_or (Some a) answer refused fine = refused a refl
+
+plain_files : (names : List (List ℕ)) (trees : List tree.File) (a : WholeAnswer)
+    → first_unbuilt names trees ≡ Some a → IsPlain a.status
+plain_files [] [] a is = absurd (cc)
+plain_files [] (x ∷ trees) a is = absurd (cc)
+plain_files (n ∷ names) [] a is = absurd (cc)
+plain_files (n ∷ names) (x ∷ trees) a is = go (is_built x) is (plain_files names trees a)
+  where
+    some_is : {x y : WholeAnswer} → Some x ≡ Some y → x ≡ y
+    some_is e = cc
+
+    go : (b : Bool) → (if b then first_unbuilt names trees else Some (refusal n (codes "not built"))) ≡ Some a
+        → (first_unbuilt names trees ≡ Some a → IsPlain a.status) → IsPlain a.status
+    go true at rest = rest at
+    go false at rest = subst (λ (b : WholeAnswer). IsPlain b.status) (some_is at) tt
+
+plain_unbuilt : (command : Command) (names : List (List ℕ)) (trees : List tree.File) (a : WholeAnswer)
+    → unbuilt command names trees ≡ Some a → IsPlain a.status
+plain_unbuilt Check names trees a is = absurd (cc)
+plain_unbuilt (Wakes samples) names trees a is = plain_files names trees a is
+plain_unbuilt (Render samples) names trees a is = plain_files names trees a is
+plain_unbuilt (Stats samples) names trees a is = plain_files names trees a is
+plain_unbuilt Code names trees a is = plain_files names trees a is
+plain_unbuilt (Load seed) names trees a is = plain_files names trees a is
+
+plain_typing : (command : Command) (sheet : List ℕ) (names : List (List ℕ)) (trees : List tree.File)
+    (found : typing.Answer Program)
+    → IsPlain (answer_of_typing command sheet names trees found).status
+plain_typing command sheet names trees (typing.gives program) =
+    plain_or (unbuilt command names trees) (answer_of_program command sheet names program)
+    (plain_unbuilt command names trees) (plain_program command sheet names program)
+plain_typing command sheet names trees (typing.refused why) = plain_refusal names why
 
 plain_trees : (command : Command) (sheet : List ℕ) (names : List (List ℕ)) (senses : List Sense)
     → IsPlain (answer_of_trees command sheet names senses).status
 plain_trees command sheet names senses =
-    plain_typing command sheet names (checked (trees_of senses))
+    plain_typing command sheet names (trees_of senses) (checked (trees_of senses))
 
 -- the trees that were read
 pub trees_said : (trees : List File) → trees_of (said trees) ≡ map view_file trees
@@ -86,28 +121,33 @@ pub checked_said : (trees : List File) (found : typing.Answer Program)
 checked_said trees found is =
     ap (λ (files : List tree.File). checked files) (trees_said trees) ∙ is
 
+-- what is to be run of them
+pub all_built : (command : Command) (names : List (List ℕ)) (trees : List File)
+    → IsUnbuilt command trees None → unbuilt command names (trees_of (said trees)) ≡ None
+all_built command names trees none = ap (unbuilt command names) (trees_said trees) ∙ none names
+
+pub one_unbuilt : (command : Command) (names : List (List ℕ)) (trees : List File) (place : ℕ) (name : List ℕ)
+    → IsUnbuilt command trees (Some place) → slice_get names place ≡ Some name
+    → unbuilt command names (trees_of (said trees)) ≡ Some (refusal name (codes "not built"))
+one_unbuilt command names trees place name first at =
+    ap (unbuilt command names) (trees_said trees) ∙ first.1 names name at
+
 -- the first fault of the types, as the code names the file, the line and the kind
 pub refused_types : (command : Command) (sheet : List ℕ) (names : List (List ℕ))
-    (found : typing.Answer Program)
+    (trees : List tree.File) (found : typing.Answer Program)
     (old new : Moment) (status : Status) (file there line on : ℕ) (kind other : FaultKind)
     → there ≡ file → on ≡ line → other ≡ kind → found ≡ typing.fault (Typing file line kind)
     → Ends (type_refusal names (typing.fault_of (Typing there on other))) old new status
-    → Ends (answer_of_typing command sheet names found) old new status
-refused_types command sheet names found old new status file there line on kind other
+    → Ends (answer_of_typing command sheet names trees found) old new status
+refused_types command sheet names trees found old new status file there line on kind other
     file_is line_is kind_is is ends =
     let E : typing.Fault → Type 0 = λ why. Ends (type_refusal names why) old new status in
     let F : ℕ → Type 0 = λ f. E (typing.fault_of (Typing f on other)) in
     let L : ℕ → Type 0 = λ l. E (typing.fault_of (Typing file l other)) in
     let K : FaultKind → Type 0 = λ k. E (typing.fault_of (Typing file line k)) in
     let A : typing.Answer Program → Type 0 = λ a.
-    Ends (answer_of_typing command sheet names a) old new status in
+    Ends (answer_of_typing command sheet names trees a) old new status in
     subst A (sym is) (subst K kind_is (subst L line_is (subst F file_is ends)))
-
-plain_or : (o : Option WholeAnswer) (answer : WholeAnswer)
-    → ((a : WholeAnswer) → o ≡ Some a → IsPlain a.status) → IsPlain answer.status
-    → IsPlain (or_answer o answer).status
-plain_or None answer refused fine = fine
-plain_or (Some a) answer refused fine = refused a refl
 
 plain_first : (names : List (List ℕ)) (senses : List Sense) (a : WholeAnswer)
     → first_refusal names senses ≡ Some a → IsPlain a.status
@@ -173,7 +213,7 @@ pub first_within : {files : List (List ℕ)} {place line : ℕ} {wrong : List �
 first_within (is_first says) = omega arith
 first_within (is_later says first) = omega (arith, first_within first)
 
-name_at : (names : List (String Global)) (place : ℕ) (name : String Global)
+pub name_at : (names : List (String Global)) (place : ℕ) (name : String Global)
     → slice_get names place ≡ Some name
     → slice_get (words_of names) place ≡ Some (string_bytes name)
 name_at [] place name is = absurd (cc)

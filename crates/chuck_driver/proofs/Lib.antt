@@ -3,3 +3,4 @@ pub mod Carried
 pub mod Answering
 pub mod Clauses
 pub mod Mains
+pub mod Unbuilt

@@ -1,13 +1,14 @@
 -- The whole answer to a list of words over a map of files: a status and the steps at the edges.
-use Rattle.std.specs.Prelude.{◌≡◌, ℕ, List, [], ◌∷◌, Option, Some, None, codes}
+use Rattle.std.specs.Prelude.{◌≡◌, ℕ, List, [], ◌∷◌, Option, Some, None, if◌then◌else◌, codes}
 use Rattle.ck_syntax.specs.Tree.{File}
 use Rattle.ck_typed.specs.Tree.{Program}
+use Rattle.built_forms.specs.Built.{is_built}
 use Rattle.type_table.specs.Answer as typing
 use Rattle.program_laws.specs.Programs.{checked}
 use Rattle.ck_edges.specs.Shelf.{Files}
 use Rattle.load_text.specs.LoadText.{load_text}
 use Rattle.command_inputs.specs.declared.commands.Command.{Command}
-use Rattle.command_inputs.specs.declared.commands.Command.TheVariants.{Load}
+use Rattle.command_inputs.specs.declared.commands.Command.TheVariants.{Check, Load}
 use Rattle.run_report.specs.declared.status.Status.TheVariants.{Usage}
 use Rattle.command_inputs.specs.Words.{command_of, file_words, sheet_word}
 use Rattle.command_inputs.specs.Reading.{Found, OneIsMissing, TooLong, Contents, found_in}
@@ -21,12 +22,27 @@ first_refusal (name ∷ names) (HasFault line wrong ∷ senses) = Some (refusal_
 first_refusal (name ∷ names) (HasTree x ∷ senses) = first_refusal names senses
 first_refusal names senses = None
 
+-- the refusal of the first of these files with a form that isn't run yet
+abbrev pub first_unbuilt : List (List ℕ) → List File → Option WholeAnswer
+first_unbuilt (name ∷ names) (x ∷ trees) =
+    if is_built x then first_unbuilt names trees else Some (refusal name (codes "not built"))
+first_unbuilt names trees = None
+
+-- by a command that runs the files
+abbrev pub unbuilt : Command → List (List ℕ) → List File → Option WholeAnswer
+unbuilt Check names trees = None
+unbuilt command names trees = first_unbuilt names trees
+
+abbrev pub or_answer : Option WholeAnswer → WholeAnswer → WholeAnswer
+or_answer None answer = answer
+or_answer (Some refused) answer = refused
+
 -- what a command answers where the files are a program, or have this first fault of its types
-abbrev pub answer_of_typing : Command → (sheet : List ℕ) → List (List ℕ) → typing.Answer Program →
-    WholeAnswer
-answer_of_typing command sheet names (typing.gives program) =
-    answer_of_program command sheet names program
-answer_of_typing command sheet names (typing.refused why) = type_refusal names why
+abbrev pub answer_of_typing : Command → (sheet : List ℕ) → List (List ℕ) → List File →
+    typing.Answer Program → WholeAnswer
+answer_of_typing command sheet names trees (typing.gives program) =
+    or_answer (unbuilt command names trees) (answer_of_program command sheet names program)
+answer_of_typing command sheet names trees (typing.refused why) = type_refusal names why
 
 -- the trees that files say
 abbrev pub trees_of : List Sense → List File
@@ -37,11 +53,7 @@ trees_of (HasFault line wrong ∷ senses) = trees_of senses
 -- what a command answers where no file is refused by its tokens or its grammar
 abbrev pub answer_of_trees : Command → (sheet : List ℕ) → List (List ℕ) → List Sense → WholeAnswer
 answer_of_trees command sheet names senses =
-    answer_of_typing command sheet names (checked (trees_of senses))
-
-abbrev pub or_answer : Option WholeAnswer → WholeAnswer → WholeAnswer
-or_answer None answer = answer
-or_answer (Some refused) answer = refused
+    answer_of_typing command sheet names (trees_of senses) (checked (trees_of senses))
 
 -- what a command answers over files of these names, which say so
 abbrev pub answer_of : Command → (sheet : List ℕ) → List (List ℕ) → List Sense → WholeAnswer

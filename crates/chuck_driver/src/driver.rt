@@ -1,6 +1,6 @@
 //! The whole call, from words to a status.
 ghost use Rattle.std.specs.Prelude.{◌≡◌, ◌≢◌, ◌⊎◌, ◌↔◌, false, ◌+◌, ◌<◌, ◌≤◌, None, Some, [], ◌∷◌};
-ghost use Rattle.std.specs.Prelude.{IfSome, IfOk, All, length, slice_get, string_bytes, codes};
+ghost use Rattle.std.specs.Prelude.{IfSome, IfOk, All, length, map, slice_get, string_bytes, codes};
 ghost use Rattle.ck_base.specs.declared.limits.TheConstants.{MAX_FILE_BYTES};
 ghost use Rattle.ck_syntax.specs.Size.{file_size};
 ghost use Rattle.ck_syntax.specs.View.{view_file};
@@ -11,11 +11,13 @@ ghost use Rattle.command_inputs.specs.Senses.{contents_of, said, wrong_text};
 ghost use Rattle.program_answers.specs.Answer.{refusal, refusal_at};
 ghost use Rattle.program_answers.specs.Ends.{KeepsTold, LeavesPress};
 ghost use Rattle.program_answers.specs.Ends.{moment_of, Ends, EndsAtSink, LeavesTally};
-ghost use Rattle.chuck_driver.specs.Answer.{answer_of_trees};
+ghost use Rattle.chuck_driver.specs.Answer.{first_unbuilt, answer_of_trees};
+ghost use Rattle.chuck_driver.specs.Unbuilt.{IsFirst, IsUnbuilt};
 ghost use Rattle.chuck_driver.specs.Outcome.{whole_call, AnswersWhole, AnswersPart, AnswersFront};
 ghost use Rattle.chuck_driver.specs.Outcome.{DoesNothing, CarriesOut, HasReadFault, HasWriteFault};
 ghost use Rattle.chuck_driver.specs.Outcome.{LacksFile, StandsAtZero, Answered, Concludes};
 
+use built_forms::is_built;
 use check_decls::check;
 use ck_edges::{Press, Shelf, Sink};
 use ck_syntax::File;
@@ -231,6 +233,37 @@ fn refuse_source<O: Sink>(
     refuse_at(alloc, names[place].as_str(), line, wrong.text(), out)
 }
 
+/// The place of the first file with a form that isn't run yet.
+fn first_unbuilt(trees: &[File]) -> Option<usize>
+    ensures { IsFirst trees.now (λ names. first_unbuilt names (map view_file trees.now)) result }
+{
+    for i in 0..trees.len() {
+        if !is_built(&trees[i]) {
+            return Some(i);
+        }
+    }
+    None
+}
+
+/// The same, where the command runs the files.
+fn unbuilt(command: Command, trees: &[File]) -> Option<usize>
+    ensures { IsUnbuilt command trees.now result }
+{
+    match command {
+        Command::Check => None,
+        _ => first_unbuilt(trees),
+    }
+}
+
+/// Refuses the file at this place, which has a form that isn't run yet.
+fn refuse_unbuilt<O: Sink>(alloc: Global, names: &[String], place: usize, out: &mut O) -> Status
+    requires { place < length names.now }
+    ensures { IfSome (slice_get names.now place) (λ name.
+        EndsAtSink O.Sink (refusal (string_bytes name) (codes "not built")) out.old out.new result) }
+{
+    refuse(alloc, names[place].as_str(), "not built", out)
+}
+
 /// Answers a command over the trees of its files.
 fn answer_trees<O: Sink, P: Press>(
     alloc: Global,
@@ -255,7 +288,10 @@ fn answer_trees<O: Sink, P: Press>(
         LeavesTally result answer.tally tally.old tally.new }
 {
     match check(alloc, trees) {
-        Ok(program) => answer_program(alloc, command, sheet, names, program, out, press, tally),
+        Ok(program) => match unbuilt(command, trees) {
+            Some(place) => refuse_unbuilt(alloc, names, place, out),
+            None => answer_program(alloc, command, sheet, names, program, out, press, tally),
+        },
         Err(TypeFault::Typing { file, line, kind }) => {
             refuse_types(alloc, names, file, line, kind, out)
         }

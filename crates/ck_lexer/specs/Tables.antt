@@ -60,7 +60,8 @@ words =
     (codes "minute", word.Minute) ∷
     (codes "hour", word.Hour) ∷
     (codes "day", word.Day) ∷
-    (codes "week", word.Week) ∷ []
+    (codes "week", word.Week) ∷
+    (codes "auto", word.Auto) ∷ []
 
 -- the marks, the longer ones first
 unfoldable pub marks : List (List ℕ × Mark)

@@ -14,7 +14,7 @@ type WordRow = (&'static [u8], Word);
 type MarkRow = (&'static [u8], Mark);
 
 /// The words.
-static WORDS: [WordRow; 40] = [
+static WORDS: [WordRow; 41] = [
     (b"int", Word::Int),
     (b"float", Word::Float),
     (b"dur", Word::Dur),
@@ -55,6 +55,7 @@ static WORDS: [WordRow; 40] = [
     (b"hour", Word::Hour),
     (b"day", Word::Day),
     (b"week", Word::Week),
+    (b"auto", Word::Auto),
 ];
 
 /// The marks, the longer ones first.

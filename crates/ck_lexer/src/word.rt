@@ -41,4 +41,5 @@ pub enum Word {
     Hour,
     Day,
     Week,
+    Auto,
 }

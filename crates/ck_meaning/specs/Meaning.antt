@@ -32,7 +32,7 @@ use Rattle.ck_typed.specs.declared.operation.Binary.{Binary as OfTwo}
 use Rattle.ck_typed.specs.declared.operation.Binary.TheVariants as binary_op
 use Rattle.ck_typed.specs.declared.operation.Variadic.{Variadic as OfMany}
 use Rattle.ck_typed.specs.declared.operation.Variadic.TheVariants as variadic_op
-use Rattle.ck_typed.specs.Tree.{Expr, Exprs, no_exprs, more_exprs, Leaf, Text, Unary, Binary, Variadic, And, Or, Choice, Assign, AssignDeclared, Update, Prefix, Postfix, New, NewObjects, CallOf, SporkOf, Stmt, Stmts, no_stmts, more_stmts, Simple, Block, Print, If, Loop, LoopLast, For, ForEver, Repeat, Break, Continue, Return, Fun, Program}
+use Rattle.ck_typed.specs.Tree.{Expr, Exprs, no_exprs, more_exprs, Leaf, Text, Unary, Binary, Variadic, And, Or, Choice, Assign, AssignDeclared, Update, Prefix, Postfix, New, NewObjects, Construct, CallOf, SporkOf, Stmt, Stmts, no_stmts, more_stmts, Simple, Block, Print, If, Loop, LoopLast, For, ForEver, Repeat, ForEach, Break, Continue, Return, Fun, Program}
 use Rattle.ck_meaning.specs.Outcome.{Point, with_locals, with_state, with_store, Broken, Continued, Returned, Outcome, Done, Left, Asks, Trapped, Wrong, then_do, try}
 
 -- nothing, the value of a statement
@@ -341,9 +341,11 @@ abbrev mutual
       then_do (updated spot vs (step_of direction) (AnInt (pos 1)) place pt1) (λ w pt2.
       try (binary (undone_by direction) w (AnInt (pos 1))) place pt2.state (λ v. Done v pt2)))
   eval se (New c place) pt = new_object se c place pt
-  eval se (NewObjects e n place) pt =
+  eval se (NewObjects e n constructor place) pt =
       then_do (eval se n pt) (λ x pt1. made_by (row_made e x pt1.state.store) place pt1
       (λ r pt2. each_made se.bound se e r (AnInt (pos 0)) place pt2))
+  -- no constructor is called yet: a program that has one isn't run
+  eval se (Construct o f arguments place) pt = eval se o pt
   eval se (CallOf o f arguments place) pt =
       then_do (eval se o pt) (λ r pt1.
       then_do (eval_all se arguments pt1) (λ vs pt2. called se f vs place pt2))
@@ -437,6 +439,8 @@ abbrev mutual
       rounds se.bound place always (λ pt2. stepped (exec se body pt2) (exec se step)) pt1)
   exec se (Repeat count body place) pt =
       then_do (eval se count pt) (λ v pt1. rounds_left se.bound place v (exec se body) pt1)
+  -- nor is a loop over the items of an array run yet
+  exec se (ForEach array local widens body place) pt = Done tt pt
   exec se (Break place) pt = Left Broken pt
   exec se (Continue place) pt = Left Continued pt
   exec se (Return e place) pt = then_do (eval se e pt) (λ v pt1. Left (Returned v) pt1)

@@ -1,12 +1,16 @@
 -- What tokens complete a state to a file, and the same at the next state after each row of first
 -- tokens.
+use Rattle.std.proofs.Common.{subst}
 use Rattle.std.proofs.Common.{◌⊎◌, inl, inr, ◌≡◌, ℕ, zero, suc, List, [], ◌∷◌}
 use Rattle.std.proofs.Common.{Bool, true, false, Option, Some, None, refl}
+use Rattle.std.specs.Option.{option_map}
+use Rattle.std.proofs.lemmas.Option.{same_Some}
 use Rattle.ck_lexer.specs.declared.mark.Mark.TheVariants as m
 use Rattle.ck_lexer.specs.declared.token.Token.{Token}
 use Rattle.ck_lexer.specs.declared.token.TokenKind.{TokenKind}
 use Rattle.ck_lexer.specs.declared.token.TokenKind.TheVariants.{Word, Mark, Name}
 use Rattle.ck_lexer.specs.declared.word.Word.TheVariants as word
+use Rattle.ck_parser.specs.Grammar.{IsHeadBase, of_typed, of_auto, IsArguments, of_none_given, of_arguments, of_declr_with, of_new_with, of_empty_bracket, of_bracket, of_for_each, of_constructor, of_pair, IsParams}
 use Rattle.ck_parser.specs.Grammar.{IsBase, of_word, of_class, IsPairs, of_no_pairs}
 use Rattle.ck_parser.specs.Grammar.{IsType, of_base, IsAt, IsHead, of_head}
 use Rattle.ck_parser.specs.Grammar.{of_static, of_atom, of_name, of_paren, of_array, IsExprs}
@@ -30,6 +34,7 @@ use Rattle.ck_parser.specs.Grammar.{of_no_members, IsClassWord, of_class_word}
 use Rattle.ck_parser.specs.Grammar.{of_public_class, IsParent, of_no_parent, of_extends, IsClass}
 use Rattle.ck_parser.specs.Grammar.{of_class_def, IsItem, of_class_item, of_fun_item, of_stmt_item}
 use Rattle.ck_parser.specs.Grammar.{IsItems, IsFile}
+use Rattle.parse_exprs.specs.Machine.{a_head_base, arguments, declr_rest, new_rest, empty_pairs, each_pairs, each_or, colon_or, for_start, first_start, after_colon, with_params}
 use Rattle.parse_exprs.specs.Machine.{State, done, sign, may, a_name, a_base, pairs, postfix, unary}
 use Rattle.parse_exprs.specs.Machine.{operand, declared, declared_or, calls, durs, casts, joins}
 use Rattle.parse_exprs.specs.Machine.{asks, chucks, brackets, sizes, more_exprs, more_declrs}
@@ -39,8 +44,9 @@ use Rattle.parse_exprs.specs.Machine.{some_exprs, a_type, a_declr, a_test, a_dec
 use Rattle.parse_exprs.specs.Machine.{first_postfix, first_unary, first_operand}
 use Rattle.parse_exprs.specs.Machine.{simple_end}
 use Rattle.parse_exprs.specs.Machine.{declares_or, first_expr_stmt, first_stmt}
-use Rattle.parse_exprs.specs.Machine.{a_block, a_param, after_fun, after_name, after_class}
+use Rattle.parse_exprs.specs.Machine.{a_block, a_param, after_fun, after_class}
 use Rattle.parse_exprs.specs.Machine.{class_body, signature, first_member, first_item}
+use Rattle.parse_exprs.specs.Tokens.{opens_auto, then, begins}
 use Rattle.parse_exprs.specs.Tokens.{Begins, Then, Opening, atom, named, prefixed}
 use Rattle.parse_exprs.specs.Tokens.{based, opens_paren, opens_array, opens_new, opens_spork}
 use Rattle.parse_exprs.specs.Tokens.{opens_static, opens_empty, opens_block, opens_print, opens_if}
@@ -49,6 +55,7 @@ use Rattle.parse_exprs.specs.Tokens.{opens_break, opens_continue, opens_return, 
 use Rattle.parse_exprs.specs.Tokens.{opens_class, opens_public, opening, kind_of}
 use Rattle.parse_exprs.specs.Tokens.{Sign, a_word, a_mark, has}
 use Rattle.ck_syntax.specs.Tree as t
+use Rattle.ck_syntax.specs.Tree.{Params, Brackets, declr_name}
 use Rattle.ck_syntax.specs.Tree.{Expr, Exprs, Declr, Stmt, Stmts, Fun}
 use Rattle.ck_syntax.specs.Tree.{Member, Class, Item, File, no_params}
 use Rattle.ck_syntax.specs.Tree.{and_param}
@@ -90,6 +97,14 @@ abbrev pub Declares : (ℕ → DeclHead → Declr → List Token → Type 0) →
 Declares P w = (l : ℕ) × (h : DeclHead) × (x : Declr) × (a : List Token) × (rest : List Token)
     × IsHead w l h a × IsDeclr a x rest × P l h x rest
 
+-- (Base | 'auto') '@'? Name ('[' ']')* ':'
+abbrev pub Items : (DeclHead → t.Name → ℕ → List Token → Type 0) → List Token → Type 0
+Items P w = (l : ℕ) × (b : Option Base) × (r : Bool) × (n : t.Name) × (q : ℕ) × (a : List Token)
+    × (c : List Token) × (e : List Token) × (h : List Token) × (rest : List Token)
+    × IsHeadBase w l b a × IsAt a r c × Then (Name n) c e × IsPairs e q h
+    × Then (Mark m.Colon) h rest
+    × P (record { is_static = false; base = b; is_reference = r }) n q rest
+
 -- w completes the state to the file g
 abbrev pub Fills : File → State → List Token → Type 0
 Fills g (done x) w = (w ≡ []) × (x ≡ g)
@@ -116,6 +131,8 @@ Fills g (sizes d es k) w = Goes IsSizes IsSizes es (λ x rest. Fills g (k x) res
 Fills g (more_exprs d es k) w = Goes IsExprs IsExprs es (λ x rest. Fills g (k x) rest) w
 Fills g (more_declrs d xs k) w = Goes IsDeclrs IsDeclrs xs (λ x rest. Fills g (k x) rest) w
 Fills g (an_expr_stmt d k) w = Comes IsExprStmt (λ s rest. Fills g (k s) rest) w
+Fills g (for_start d f k) w = (Comes IsExprStmt (λ s rest. Fills g (k s) rest) w)
+    ⊎ (Items (λ h n q rest. Fills g (f h n q) rest) w)
 Fills g (a_stmt d k) w = Comes IsStmt (λ s rest. Fills g (k s) rest) w
 Fills g (stmts d ss k) w = Goes IsStmts IsStmts ss (λ x rest. Fills g (k x) rest) w
 Fills g (more_params d ps k) w = Goes IsSomeParams IsSomeParams ps (λ x rest. Fills g (k x) rest) w
@@ -139,9 +156,59 @@ pub type_of : (g : File) (d : ℕ) (k : TypeName → State) (w : List Token) →
     → Comes IsType (λ b rest. Fills g (k b) rest) w
 type_of g d k w (b, a, (l, i), (n, rest, go, p)) = (_, rest, of_base i (go a of_no_pairs), p)
 
+arguments_of : (g : File) (d : ℕ) (k : Exprs → State) (w a : List Token)
+    → Then (Mark m.LeftParen) w a → Fills g (arguments d k) a
+    → Comes IsArguments (λ es rest. Fills g (k es) rest) w
+arguments_of g d k w a q (inl (rest, r, p)) = (no_exprs, rest, of_none_given q r, p)
+arguments_of g d k w a q (inr (_, f)) = let (es, b, i, (rest, r, p)) = exprs_of g d
+    (λ es. sign d (a_mark m.RightParen) (k es)) a f in (es, rest, of_arguments q i r, p)
+
+-- what goes on with the name of a declarator
+declr_from : (g : File) (d : ℕ) (n : t.Name) (k : Declr → State) (w a : List Token)
+    → Then (Name n) w a → Fills g (declr_rest d n k) a
+    → Comes IsDeclr (λ x rest. Fills g (k x) rest) w
+declr_from g d n k w a i (inl (b, q, f)) = let (es, rest, j, p) = arguments_of g (suc d)
+    (λ es. k (t.declr_with n es)) a b q f in (_, rest, of_declr_with i j, p)
+declr_from g d n k w a i (inr (_, (bs, rest, go, p))) =
+    (_, rest, of_declr i (go a of_no_brackets), p)
+
 pub declr_of : (g : File) (d : ℕ) (k : Declr → State) (w : List Token) → Fills g (a_declr d k) w
     → Comes IsDeclr (λ x rest. Fills g (k x) rest) w
-declr_of g d k w (n, a, i, (bs, rest, go, p)) = (_, rest, of_declr i (go a of_no_brackets), p)
+declr_of g d k w (n, a, i, f) = declr_from g d n k w a i f
+
+abbrev IsSomeHeadBase : List Token → Option Base → List Token → Type 0
+IsSomeHeadBase w b rest = (l : ℕ) × IsHeadBase w l b rest
+
+head_base_of : (g : File) (d : ℕ) (k : Option Base → State) (w : List Token)
+    → Fills g (a_head_base d k) w → Comes IsSomeHeadBase (λ b rest. Fills g (k b) rest) w
+head_base_of g d k w (inl (rest, q, p)) = (None, rest, auto_base q, p)
+  where
+    auto_base : {w rest : List Token} → Then (Word word.Auto) w rest → IsSomeHeadBase w None rest
+    auto_base (then {l = l}) = (l, of_auto begins)
+head_base_of g d k w (inr (_, (b, rest, (l, i), p))) = (Some b, rest, (l, of_typed i), p)
+
+-- ---- what stands before the ':' of a `for`
+
+pairs_of : {ts rest : List Token} {bs : Brackets} → IsBrackets ts bs rest → (q : ℕ)
+    → empty_pairs bs ≡ Some q → IsPairs ts q rest
+pairs_of {ts = ts} of_no_brackets q h = subst (λ q. IsPairs ts q ts) (same_Some 0 q h) of_no_pairs
+pairs_of (of_empty_bracket {bs = bs} {ts = ts} {a = a} {rest = rest} i p r) q h =
+    go (empty_pairs bs) refl h (λ c e. pairs_of i c e)
+  where
+    go : (o : Option ℕ) → empty_pairs bs ≡ o → option_map suc o ≡ Some q
+        → ((c : ℕ) → empty_pairs bs ≡ Some c → IsPairs ts c a) → IsPairs ts q rest
+    go None e h f = cc
+    go (Some c) e h f =
+        subst (λ q. IsPairs ts q rest) (same_Some (suc c) q h) (of_pair (f c e) p r)
+pairs_of (of_bracket i p e r) q h = cc
+
+items_of : {l : ℕ} {h : DeclHead} {x : Declr} {w a c rest : List Token} → IsHead w l h a
+    → IsDeclr a x c → (q : ℕ) → each_pairs h x ≡ Some q → Then (Mark m.Colon) c rest
+    → (P : DeclHead → t.Name → ℕ → List Token → Type 0) → P h (declr_name x) q rest → Items P w
+items_of (of_head b r) (of_declr n i) q h colon P p =
+    (_, _, _, _, q, _, _, _, _, _, b, r, n, pairs_of i q h, colon, p)
+items_of (of_static begins b r) (of_declr n i) q h colon P p = cc
+items_of i (of_declr_with n j) q h colon P p = cc
 
 test_of : (g : File) (d : ℕ) (k : Expr → State) (w : List Token) → Fills g (a_test d k) w
     → Comes IsTest (λ e rest. Fills g (k e) rest) w
@@ -176,6 +243,22 @@ param_of g k w f = let (b, a, i, (n, c, j, (q, rest, go, p))) = type_of g 1
 block_of : (g : File) (k : Stmts → State) (w : List Token) → Fills g (a_block k) w
     → Comes IsBlock (λ ss rest. Fills g (k ss) rest) w
 block_of g k w (a, i, (ss, b, go, (rest, j, p))) = (ss, rest, of_braces i (go a of_no_stmts) j, p)
+
+-- '(' (Par (',' Par)*)? ')' Block
+abbrev Bodied : (Params → Stmts → List Token → Type 0) → List Token → Type 0
+Bodied P w = (ps : Params) × (ss : Stmts) × (a : List Token) × (b : List Token) × (c : List Token)
+    × (rest : List Token) × Then (Mark m.LeftParen) w a × IsParams a ps b
+    × Then (Mark m.RightParen) b c × IsBlock c ss rest × P ps ss rest
+
+params_of : (g : File) (k : Params → Stmts → State) (w : List Token) → Fills g (with_params k) w
+    → Bodied (λ ps ss rest. Fills g (k ps ss) rest) w
+params_of g k w (a, q, inl (b, r, f)) = let (ss, rest, i, p) = block_of g (k no_params) b f in
+    (no_params, ss, a, a, b, rest, q, of_no_params, r, i, p)
+params_of g k w (a, q, inr (_, f)) = let (p1, b, i, (ps, c, go, (e, r, f'))) = param_of g
+    (λ p. more_params 1 (and_param no_params p)
+    (λ ps. sign 1 (a_mark m.RightParen) (a_block (k ps)))) a f in
+    let (ss, rest, j, p) = block_of g (k ps) e f' in
+    (ps, ss, a, c, e, rest, q, of_params (go a (of_first_param i)), r, j, p)
 
 -- ---- the fact at the next state, where there is one
 
@@ -252,13 +335,17 @@ module _ (g : File) (x : Token) (w : List Token) where
       (λ r. Fills g r w → Comes IsUnary (λ e rest. (c : ℕ) × Fills g (k e c) rest) (x ∷ w))
   back-unary d k (prefixed o) h =
       λ (e, rest, i, (c, p)). (t.prefix x.line o e, rest, of_prefix itself h i, (c, p))
-  back-unary d k opens_new h = λ (b, a, (l, i), (es, rest, go, p)). (
-    t.new x.line b es,
-    rest,
-    of_new (first (Word word.New)
-        (opened x.line x.kind _ opens_new h refl)) i (go a of_no_sizes),
-    (suc d, p),
-  )
+  back-unary d k opens_new h = λ (b, a, (l, i), f). new_of
+      (first (Word word.New) (opened x.line x.kind _ opens_new h refl)) b a l i f
+    where
+      new_of : Begins (Word word.New) x.line (x ∷ w) w → (b : Base) (a : List Token) (l : ℕ)
+          → IsBase w l b a → Fills g (new_rest (suc d) x.line b (λ e. k e (suc d))) a
+          → Comes IsUnary (λ e rest. (c : ℕ) × Fills g (k e c) rest) (x ∷ w)
+      new_of n b a l i (inl (c, q, f)) = let (es, rest, j, p) = arguments_of g (suc (suc d))
+          (λ es. k (t.new_with x.line b es) (suc d)) a c q f in
+          (t.new_with x.line b es, rest, of_new_with n i j, (suc d, p))
+      new_of n b a l i (inr (_, (es, rest, go, p))) =
+          (t.new x.line b es, rest, of_new n i (go a of_no_sizes), (suc d, p))
   back-unary d k opens_spork h = λ (a, q, (e, rest, i, (c, p))). (
     t.spork x.line e,
     rest,
@@ -279,39 +366,37 @@ module _ (g : File) (x : Token) (w : List Token) where
       (λ e rest. (c : ℕ) × Fills g (k e c) rest) (x ∷ w) → Fills g (operand d s k) (x ∷ w)
   as_value d s k f = inr f
 
+  -- a declaration behind its base
+  declared_of : (d : ℕ) (s : ℕ → DeclHead → Declr → State) (st : Bool) (b : Option Base)
+      (u : List Token) → ((r : Bool) (a : List Token) → IsAt u r a → IsHead (x ∷ w) x.line
+      (record { is_static = st; base = b; is_reference = r }) a)
+      → AtName (λ r n rest. Fills g (a_declared d x.line st b s r n) rest) u
+      → Declares (λ l head y rest. Fills g (s l head y) rest) (x ∷ w)
+  declared_of d s st b u make (r, n, a, c, i, q, f) =
+      let h : DeclHead = record { is_static = st; base = b; is_reference = r } in
+      let (y, rest, j, p) = declr_from g d n (λ y. s x.line h y) a c q f in
+      (x.line, h, y, a, rest, make r a i, j, p)
+
   pub back-operand : (d : ℕ) (s : ℕ → DeclHead → Declr → State) (k : Expr → ℕ → State) (o : Opening)
       → opening x.line x.kind ≡ o
       → At (first_operand d x.line o s k) (λ r. Fills g r w → Fills g (operand d s k) (x ∷ w))
-  back-operand d s k (based b) h = λ (r, n, a, c, i, q, (bs, rest, go, p)).
-      inl (_, _, _, _, rest, of_head (of_word itself h) i, of_declr q (go c of_no_brackets), p)
-  back-operand d s k opens_static h = λ (b, y, (l, z), (r, n, a, c, i, q, (bs, rest, go, p))).
-      inl (
-        _,
-        _,
-        _,
-        _,
-        rest,
-        of_static (first (Word word.Static)
-            (opened x.line x.kind _ opens_static h refl)) z i,
-        of_declr q (go c of_no_brackets),
-        p,
-      )
+  back-operand d s k (based b) h = λ f.
+      inl (declared_of d s false (Some b) w (λ r a. of_head (of_typed (of_word itself h))) f)
+  back-operand d s k opens_auto h = λ f. inl (declared_of d s false None w
+      (λ r a. of_head (of_auto (first (Word word.Auto)
+      (opened x.line x.kind _ opens_auto h refl)))) f)
+  back-operand d s k opens_static h = λ f. let (b, y, (l, z), e) = head_base_of g d
+      (λ b. declared d (a_declared d x.line true b s)) w f in
+      inl (declared_of d s true b y (λ r a. of_static (first (Word word.Static)
+      (opened x.line x.kind _ opens_static h refl)) z) e)
   back-operand d s k (named n) h = λ f. name_or f
     where
-      name_or : Fills g (declared_or d (a_declared d x.line false (a_class n) s)
+      name_or : Fills g (declared_or d (a_declared d x.line false (Some (a_class n)) s)
           (calls d (t.name x.line n) (λ e c. durs c e (λ q b. cond_rest b q k)))) w
           → Fills g (operand d s k) (x ∷ w)
-      name_or (inl (r, n', a, c, i, q, (bs, rest, go, p))) = inl (
-        _,
-        _,
-        _,
-        _,
-        rest,
-        of_head (of_class
-            (first (Name n) (opened x.line x.kind _ (named n) h refl))) i,
-        of_declr q (go c of_no_brackets),
-        p,
-      )
+      name_or (inl f) = inl (declared_of d s false (Some (a_class n)) w
+          (λ r a. of_head (of_typed (of_class
+          (first (Name n) (opened x.line x.kind _ (named n) h refl))))) f)
       name_or (inr f) = inr (back-cond d k (named n) h f)
   back-operand d s k o h = lift (first_unary d x.line o (λ e c. cond_rest c e k))
       (as_value d s k) (back-cond d k o h)
@@ -341,6 +426,34 @@ module _ (g : File) (x : Token) (w : List Token) where
   back-expr_stmt d k o h = lift (first_operand d x.line o (declares_or d k)
       (λ e c. chucks c e (simple_end d k))) (simple_of d k)
       (back-operand d (declares_or d k) (λ e c. chucks c e (simple_end d k)) o h)
+
+  -- the beginning of a `for`'s parentheses, behind its first operand
+  start_of : (d : ℕ) (f : DeclHead → t.Name → ℕ → State) (k : Stmt → State) → Fills g
+      (operand d (each_or d f k) (λ e c. chucks c e (simple_end d k))) (x ∷ w)
+      → Fills g (for_start d f k) (x ∷ w)
+  start_of d f k (inl (l, h, y, a, b, i, j, e)) = go (each_pairs h y) refl e
+    where
+      go : (o : Option ℕ) → each_pairs h y ≡ o
+          → Fills g (colon_or d f h y o (declares_or d k l h y)) b
+          → Fills g (for_start d f k) (x ∷ w)
+      go None q p = inl (simple_of d k (inl (l, h, y, a, b, i, j, p)))
+      go (Some c) q (inl (rest, colon, p)) =
+          inr (items_of i j c q colon (λ h n q rest. Fills g (f h n q) rest) p)
+      go (Some c) q (inr (_, p)) = inl (simple_of d k (inl (l, h, y, a, b, i, j, p)))
+  start_of d f k (inr p) = inl (simple_of d k (inr p))
+
+  pub back-start : (d : ℕ) (f : DeclHead → t.Name → ℕ → State) (k : Stmt → State) (o : Opening)
+      → opening x.line x.kind ≡ o
+      → At (first_start d x.line o f k) (λ r. Fills g r w → Fills g (for_start d f k) (x ∷ w))
+  back-start d f k opens_empty h = λ p. inl (
+    t.empty x.line,
+    w,
+    of_empty (first (Mark m.Semicolon) (opened x.line x.kind _ opens_empty h refl)),
+    p,
+  )
+  back-start d f k o h = lift (first_operand d x.line o (each_or d f k)
+      (λ e c. chucks c e (simple_end d k))) (start_of d f k)
+      (back-operand d (each_or d f k) (λ e c. chucks c e (simple_end d k)) o h)
 
   -- ---- statements
 
@@ -381,14 +494,23 @@ module _ (g : File) (x : Token) (w : List Token) where
 
   for_of : (d : ℕ) (k : Stmt → State) → Begins (Word word.For) x.line (x ∷ w) w
       → Fills g (sign (suc d) (a_mark m.LeftParen)
-      (an_expr_stmt (suc d) (λ y. an_expr_stmt (suc d)
+      (for_start (suc d) (after_colon d x.line k) (λ y. an_expr_stmt (suc d)
       (λ z. may (suc d) (a_mark m.RightParen)
       (a_stmt (suc d) (λ s. k (t.for_do x.line y z None s)))
       (an_expr (suc d) (λ e. sign (suc d) (a_mark m.RightParen)
       (a_stmt (suc d) (λ s. k (t.for_do x.line y z (Some e) s))))))))) w → StmtComes k
-  for_of d k b (a, q, (y, c, i, (z, u, j, inl (v, r, (s, rest, l, p))))) =
+  for_of d k b (a, q, inr (l, c, r, n, n', a', c', e', h', u, i, at, name, j, colon, f)) = let (
+    e,
+    v,
+    i',
+    (o, close, (s, rest, i'', p)),
+  ) = expr_of g (suc d)
+      (λ e. sign (suc d) (a_mark m.RightParen) (a_stmt (suc d) (λ s. k
+      (t.for_each x.line (record { is_static = false; base = c; is_reference = r }) n n' e s)))) u f
+      in (_, rest, of_for_each b q i at name j colon i' close i'', p)
+  for_of d k b (a, q, inl (y, c, i, (z, u, j, inl (v, r, (s, rest, l, p))))) =
       (_, rest, of_for b q i j of_none r l, p)
-  for_of d k b (a, q, (y, c, i, (z, u, j, inr (n, f)))) = let (
+  for_of d k b (a, q, inl (y, c, i, (z, u, j, inr (n, f)))) = let (
     e,
     v,
     l,
@@ -470,31 +592,19 @@ module _ (g : File) (x : Token) (w : List Token) where
   signature_of : (l : ℕ) (s : Bool) (k : Fun → State) (a : List Token)
       → Begins (Word word.Fun) l (x ∷ w) w → IsStatic w s a → Fills g (signature l s k) a
       → Comes IsFun (λ y rest. Fills g (k y) rest) (x ∷ w)
-  signature_of l s k a b st f = let (ty, c, i, (n, u, q, (v, r, p))) = type_of g 0
-      (λ b. a_name 0 (λ n. after_name l s b n k)) a f in go ty c i n u q v r p
-    where
-      go : (ty : TypeName) (c : List Token) → IsType a ty c → (n : t.Name) (u : List Token)
-          → Then (Name n) c u → (v : List Token) → Then (Mark m.LeftParen) u v
-          → Fills g (may 1 (a_mark m.RightParen)
-          (a_block (λ ss. k (t.fun l s ty n no_params ss)))
-          (a_param (λ p. more_params 1 (and_param no_params p)
-          (λ ps. sign 1 (a_mark m.RightParen) (a_block (λ ss. k (t.fun l s ty n ps ss)))))))
-          v → Comes IsFun (λ y rest. Fills g (k y) rest) (x ∷ w)
-      go ty c i n u q v r (inl (y, z, f)) = let (ss, rest, j, p) = block_of g
-          (λ ss. k (t.fun l s ty n no_params ss)) y f in
-          (_, rest, of_fun b st i q r of_no_params z j, p)
-      go ty c i n u q v r (inr (_, f)) =
-          let (p1, y, j, (ps, z, go', (e, o, f'))) = param_of g
-          (λ p. more_params 1 (and_param no_params p)
-          (λ ps. sign 1 (a_mark m.RightParen) (a_block (λ ss. k (t.fun l s ty n ps ss))))) v
-          f in
-          let (ss, rest, j', p) = block_of g (λ ss. k (t.fun l s ty n ps ss)) e f' in
-          (_, rest, of_fun b st i q r (of_params (go' v (of_first_param j))) o j', p)
+  signature_of l s k a b st f = let (ty, c, i, (n, u, q, f')) = type_of g 0
+      (λ b. a_name 0 (λ n. with_params (λ ps ss. k (t.fun l s b n ps ss)))) a f in
+      let (ps, ss, v, y, z, rest, r, j, o, body, p) =
+      params_of g (λ ps ss. k (t.fun l s ty n ps ss)) u f' in
+      (_, rest, of_fun b st i q r j o body, p)
 
   fun_of : (k : Fun → State) → Begins (Word word.Fun) x.line (x ∷ w) w
       → Fills g (after_fun x.line k) w → Comes IsFun (λ y rest. Fills g (k y) rest) (x ∷ w)
-  fun_of k b (inl (a, q, f)) = signature_of x.line true k a b (of_static_word q) f
-  fun_of k b (inr (n, f)) = signature_of x.line false k w b of_not_static f
+  fun_of k b (inl (a, q, (c, n, f))) = let (ps, ss, v, y, z, rest, r, j, o, body, p) =
+      params_of g (λ ps ss. k (t.constructor x.line ps ss)) c f in
+      (_, rest, of_constructor b q n r j o body, p)
+  fun_of k b (inr (_, inl (a, q, f))) = signature_of x.line true k a b (of_static_word q) f
+  fun_of k b (inr (_, inr (n, f))) = signature_of x.line false k w b of_not_static f
 
   body_of : (l : ℕ) (p : Bool) (n : t.Name) (parent : Option t.Name) (k : Class → State)
       (a b c : List Token) → IsClassWord (x ∷ w) l p a → Then (Name n) a b → IsParent b parent c

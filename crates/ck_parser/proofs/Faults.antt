@@ -12,6 +12,7 @@ use Rattle.ck_lexer.specs.declared.token.TokenKind.{TokenKind}
 use Rattle.ck_lexer.specs.declared.token.TokenKind.TheVariants.{End}
 use Rattle.ck_parser.specs.Depth.{file_depths}
 use Rattle.ck_parser.specs.Grammar.{IsFile}
+use Rattle.parse_exprs.specs.Machine.{for_start}
 use Rattle.parse_exprs.specs.Machine.{State, done, sign, may, a_name, a_base, pairs, postfix, unary}
 use Rattle.parse_exprs.specs.Machine.{operand, declared, declared_or, calls, durs, casts, joins}
 use Rattle.parse_exprs.specs.Machine.{asks, chucks, brackets, sizes, more_exprs, more_declrs}
@@ -326,6 +327,7 @@ end-step (sizes d es k) l a = end-step (k es) l a
 end-step (more_exprs d es k) l a = end-step (k es) l a
 end-step (more_declrs d xs k) l a = end-step (k xs) l a
 end-step (an_expr_stmt d k) l a = tt
+end-step (for_start d f k) l a = tt
 end-step (a_stmt d k) l a = tt
 end-step (stmts d ss k) l a = end-step (k ss) l a
 end-step (more_params d ps k) l a = end-step (k ps) l a

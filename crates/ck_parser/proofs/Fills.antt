@@ -26,6 +26,7 @@ use Rattle.ck_parser.specs.Grammar.{of_more_stmts}
 use Rattle.ck_parser.specs.Grammar.{of_next_param}
 use Rattle.ck_parser.specs.Grammar.{of_more_members}
 use Rattle.ck_parser.specs.Grammar.{of_no_items, of_more_items, IsFile, of_file}
+use Rattle.parse_exprs.specs.Machine.{for_start}
 use Rattle.parse_exprs.specs.Machine.{State, done, sign, may, a_name, a_base, pairs, postfix, unary}
 use Rattle.parse_exprs.specs.Machine.{operand, declared, declared_or, calls, durs, casts, joins}
 use Rattle.parse_exprs.specs.Machine.{asks, chucks, brackets, sizes, more_exprs, more_declrs}
@@ -58,7 +59,7 @@ use Rattle.parse_exprs.proofs.TokenKinds.{is_that, opened, followed, begins_at, 
 use Rattle.ck_parser.proofs.Completions.{At, At-given, At-map, At-or_else, AtName, Fills, cond_of_unary}
 use Rattle.ck_parser.proofs.Completions.{declr_of, expr_of, exprs_of, level_of, param_of, type_of}
 use Rattle.ck_parser.proofs.Completions.{back-postfix, back-unary, back-operand, back-expr_stmt}
-use Rattle.ck_parser.proofs.Completions.{back-stmt, back-member, back-item, lift}
+use Rattle.ck_parser.proofs.Completions.{back-start, back-stmt, back-member, back-item, lift}
 
 -- ---- all states
 
@@ -281,6 +282,7 @@ back g (more_declrs d xs k) x w = back-tail g x w _ (more_declrs d xs k) (k xs)
     (y, rest, (λ ts i. on ts (of_another i q j)), p)))
     (λ f. (xs, (x ∷ w), (λ ts i. i), f)) (back g (k xs) x w)
 back g (an_expr_stmt d k) x w = back-expr_stmt g x w d k (opening x.line x.kind) refl
+back g (for_start d f k) x w = back-start g x w d f k (opening x.line x.kind) refl
 back g (a_stmt d k) x w = back-stmt g x w d k (opening x.line x.kind) refl
 back g (stmts d ss k) x w = back-tail g x w _ (stmts d ss k) (k ss)
     (lift g x w (first_stmt d x.line (opening x.line x.kind) (λ s. stmts d (and_stmt ss s) k))
@@ -343,6 +345,7 @@ fills-end g (unary d k) h = absurd (none_some g h)
 fills-end g (operand d s k) h = absurd (none_some g h)
 fills-end g (declared d k) h = absurd (none_some g h)
 fills-end g (an_expr_stmt d k) h = absurd (none_some g h)
+fills-end g (for_start d f k) h = absurd (none_some g h)
 fills-end g (a_stmt d k) h = absurd (none_some g h)
 fills-end g (items xs) h = absurd (none_some g h)
 
@@ -439,6 +442,8 @@ completes (more_exprs d es k) = let (w, g, f) = completes (k es) in (w, g, (es, 
 completes (more_declrs d xs k) = let (w, g, f) = completes (k xs) in (w, g, (xs, w, (λ ts i. i), f))
 completes (an_expr_stmt d k) = let (w, g, f) = completes (k (t.empty 0)) in
     (one (Mark m.Semicolon) ∷ w, g, (t.empty 0, w, of_empty begins, f))
+completes (for_start d f k) = let (w, g, p) = completes (k (t.empty 0)) in
+    (one (Mark m.Semicolon) ∷ w, g, inl (t.empty 0, w, of_empty begins, p))
 completes (a_stmt d k) = let (w, g, f) = completes (k (t.empty 0)) in
     (one (Mark m.Semicolon) ∷ w, g, (t.empty 0, w, of_expr_stmt (of_empty begins), f))
 completes (stmts d ss k) = let (w, g, f) = completes (k ss) in (w, g, (ss, w, (λ ts i. i), f))

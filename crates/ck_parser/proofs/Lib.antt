@@ -1,3 +1,4 @@
+pub mod Openings
 pub mod Passes
 pub mod PassesFile
 pub mod Size
@@ -6,6 +7,8 @@ pub mod Fills
 pub mod Faults
 pub mod Verdicts
 pub mod MadeStmt
+pub mod MadeFor
+pub mod EmptyPairs
 pub mod MadeItem
 pub mod MadeParent
 pub mod Ends

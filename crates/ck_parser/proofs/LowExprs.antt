@@ -5,6 +5,7 @@ use Rattle.ck_parser.specs.Depth.{one_if, pairs_depths, head_depths, behind, exp
 use Rattle.ck_parser.specs.Depth.{exprs_depths, before_comma, sizes_depths, brackets_depths}
 use Rattle.ck_parser.specs.Depth.{declr_depths}
 use Rattle.ck_parser.specs.Parse.{AreShallow}
+use Rattle.ck_syntax.specs.Tree.{new_with, declr_with}
 use Rattle.ck_syntax.specs.Tree.{Expr, int, float, text, name, constant, time_unit, paren, array}
 use Rattle.ck_syntax.specs.Tree.{call, index, member, postfix, dur, prefix, new, spork, cast}
 use Rattle.ck_syntax.specs.Tree.{binary, choice, declare, chuck, Exprs, no_exprs, and_expr}
@@ -67,6 +68,11 @@ mutual
       let le = p.0 in
       let falls : most (suc (suc d)) ≤ most (suc d) = most-falls (omega arith) in
       (front (omega arith) s.0 (omega (arith, le, falls)), p.1)
+  expr_low d (new_with l b es) ds s =
+      let p = exprs_low (suc (suc d)) es _ s.1.1.1 in
+      let le = p.0 in
+      let falls : most (suc (suc d)) ≤ most (suc d) = most-falls (omega arith) in
+      (front (omega arith) s.0 (omega (arith, le, falls)), p.1.1)
   expr_low d (spork l e) ds s = let p = expr_low (suc d) e _ s.1.1 in let f = p.0.from in
       (front (omega (arith, f)) p.0.to (whole p.0), p.1)
   expr_low d (cast l e k) ds s = let p = expr_low d e _ s in
@@ -115,3 +121,4 @@ mutual
   pub declr_low : (d : ℕ) (x : Declr) (ds : List ℕ) → AreShallow (declr_depths d x ds)
       → (declr_height x ≤ most (suc d)) × AreShallow ds
   declr_low d (declr n bs) ds s = brackets_low d bs ds s.1
+  declr_low d (declr_with n es) ds s = let p = exprs_low (suc d) es _ s.1.1 in (p.0, p.1.1)

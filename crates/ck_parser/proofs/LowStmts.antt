@@ -7,6 +7,7 @@ use Rattle.ck_parser.specs.Depth.{params_depths, params_before_comma, fun_depths
 use Rattle.ck_parser.specs.Depth.{members_depths, parent_depths, class_depths, item_depths}
 use Rattle.ck_parser.specs.Depth.{items_depths, file_depths}
 use Rattle.ck_parser.specs.Parse.{AreShallow}
+use Rattle.ck_syntax.specs.Tree.{for_each, constructor}
 use Rattle.ck_syntax.specs.Tree.{Name, Expr, Declrs, no_declrs, and_declr, Stmt, block, empty}
 use Rattle.ck_syntax.specs.Tree.{simple, declares, print, if_then, if_else, while_do, until_do}
 use Rattle.ck_syntax.specs.Tree.{do_while, do_until, for_do, repeat, break, continue, return, Stmts}
@@ -92,6 +93,13 @@ mutual
             (both (deeper s.0 test) (deeper s.0 r.0))),
         r.1,
       )
+  stmt_low d (for_each l h n q e x) ds s =
+      let a = behind_head (suc d) h _ s.1.1 in
+      let b = behind_pairs (suc d) q _ a.1.1 in
+      let p = expr_low (suc d) e _ b.1 in
+      let r = stmt_low (suc d) x ds p.1.1 in
+      let array : expr_height e ≤ suc (most (suc d)) = (let le = whole p.0 in omega (arith, le)) in
+      (more (both (deeper s.0 array) (deeper s.0 r.0)), r.1)
   stmt_low d (repeat l e x) ds s = let p = test_low d e _ s.0 s.1 in
       let q = stmt_low (suc d) x ds p.1 in (more (both p.0 (deeper s.0 q.0)), q.1)
   stmt_low d (break l) ds s = (omega arith, s.1.1)
@@ -128,6 +136,10 @@ fun_low : (x : Fun) (ds : List ℕ) → AreShallow (fun_depths x ds)
 fun_low (fun l st k n ps ss) ds s =
     let p = behind_type 0 k.brackets _ (behind_one_if st 0 _ s.1) in
     let q = behind_params 1 ps _ p.1.1 in
+    let r = stmts_low 1 ss _ q.1.1 in
+    (more r.0, r.1.1)
+fun_low (constructor l ps ss) ds s =
+    let q = behind_params 1 ps _ s.1.1.1.1 in
     let r = stmts_low 1 ss _ q.1.1 in
     (more r.0, r.1.1)
 

@@ -12,16 +12,19 @@ use Rattle.parse_exprs.specs.declared.opening.Opening.{Opening as Seen}
 use Rattle.parse_exprs.specs.declared.opening.Opening.TheVariants as seen
 use Rattle.ck_parser.specs.Items.{some_params, all_params, a_parent, body_end, a_body, InBody}
 use Rattle.ck_parser.specs.Items.{more_members, after_member, at_the_end}
+use Rattle.parse_exprs.specs.Machine.{after_at}
 use Rattle.parse_exprs.specs.Machine.{State, Next, ended, left, resume, is_shallow, at_end, step}
 use Rattle.parse_exprs.specs.Machine.{or_else, given, done, sign, may, a_name, a_stmt, more_params}
-use Rattle.parse_exprs.specs.Machine.{members, items, a_type, a_block, a_param, after_name}
+use Rattle.parse_exprs.specs.Machine.{members, items, a_type, a_block, a_param}
 use Rattle.parse_exprs.specs.Machine.{signature, after_fun, after_class, first_stmt, first_member}
 use Rattle.parse_exprs.specs.Machine.{first_item, next_end, start}
 use Rattle.ck_parser.specs.Parse.{is_end}
 use Rattle.parse_exprs.specs.Reads.{Leads, StopsAt, Reads, Missing, Agrees, is_value, is_named}
 use Rattle.parse_exprs.specs.Reads.{is_based}
+use Rattle.parse_exprs.specs.Tokens.{a_construct, construct}
 use Rattle.parse_exprs.specs.Tokens.{Then, Opening, atom, named, based, opens_fun, opens_class}
 use Rattle.parse_exprs.specs.Tokens.{opens_public, opening, a_word, a_mark, has}
+use Rattle.parse_exprs.proofs.Made.{first_step}
 use Rattle.parse_exprs.proofs.Made.{may_come, may_not}
 use Rattle.parse_exprs.proofs.Steps.{onward, inside, stops_onward, stops_inside, token, past_sign}
 use Rattle.parse_exprs.proofs.Steps.{no_sign, past_name, then_name}
@@ -126,11 +129,11 @@ made_parens {ps = ps} h g r i =
 
 -- ---- a function
 
-abbrev fun_name : ℕ → Bool → (Fun → State) → TypeName → State
-fun_name l s k b = a_name 0 (λ n. after_name l s b n k)
-
 abbrev fun_body : ℕ → Bool → TypeName → t.Name → (Fun → State) → Params → State
 fun_body l s b n k ps = a_block (λ ss. k (t.fun l s b n ps ss))
+
+abbrev fun_name : ℕ → Bool → (Fun → State) → TypeName → State
+fun_name l s k b = a_name 0 (λ n. all_params (fun_body l s b n k))
 
 behind_result : {ts a : List Token} {b : TypeName} (l : ℕ) (s : Bool) → Leads (λ k. a_type 0 k)
     (λ k. k b) ts a → Leads (λ k. signature l s k) (λ k. fun_name l s k b) ts a
@@ -140,7 +143,8 @@ named_fun : {ts a c : List Token} {b : TypeName} {n : List ℕ} (l : ℕ) (s : B
     → Leads (λ k. a_type 0 k) (λ k. k b) ts a → Then (Name n) a c
     → Leads (λ k. signature l s k) (λ k. all_params (fun_body l s b n k)) ts c
 named_fun {b = b} l s r h =
-    onward (behind_result l s r) (past_name 0 (λ k n. after_name l s b n k) h (omega arith))
+    onward (behind_result l s r)
+    (past_name 0 (λ k n. all_params (fun_body l s b n k)) h (omega arith))
 
 pub bad_params : {ts a c : List Token} {b : TypeName} {n : List ℕ} (l : ℕ) (s : Bool)
     (e : Fault) → Leads (λ k. a_type 0 k) (λ k. k b) ts a → Then (Name n) a c
@@ -169,15 +173,67 @@ pub made_fun : {ts a c d f : List Token} {b : TypeName} {n : List ℕ} {ps : Par
 made_fun {b = b} {n = n} {ps = ps} l s r h g i =
     onward (behind_params l s r h g) (inside (λ k ss. k (t.fun l s b n ps ss)) i)
 
-pub static_fun : {ts a : List Token} (l : ℕ) → Then (Word w.Static) ts a
-    → Leads (λ k. after_fun l k) (λ k. signature l true k) ts a
-static_fun l h = may_come (a_word w.Static) 0 (λ k. signature l true k)
-    (λ k. signature l false k) h (omega arith)
+abbrev named_def : ℕ → (Fun → State) → State
+named_def l k = may 0 (a_word w.Static) (signature l true k) (signature l false k)
 
-pub plain_fun : (l : ℕ) (ts : List Token) → has (a_word w.Static) ts ≡ false
+no_at : (l : ℕ) (ts : List Token) → has (a_mark m.At) ts ≡ false
+    → Leads (λ k. after_fun l k) (λ k. named_def l k) ts ts
+no_at l ts h = may_not ts (a_mark m.At) 0 (λ k. after_at l k) (λ k. named_def l k) h
+
+pub static_fun : {a : List Token} (l : ℕ) (ts : List Token) → has (a_mark m.At) ts ≡ false
+    → Then (Word w.Static) ts a → Leads (λ k. after_fun l k) (λ k. signature l true k) ts a
+static_fun l ts n h = onward (no_at l ts n) (may_come (a_word w.Static) 0
+    (λ k. signature l true k) (λ k. signature l false k) h (omega arith))
+
+pub plain_fun : (l : ℕ) (ts : List Token) → has (a_mark m.At) ts ≡ false
+    → has (a_word w.Static) ts ≡ false
     → Leads (λ k. after_fun l k) (λ k. signature l false k) ts ts
-plain_fun l ts h =
-    may_not ts (a_word w.Static) 0 (λ k. signature l true k) (λ k. signature l false k) h
+plain_fun l ts n h = onward (no_at l ts n)
+    (may_not ts (a_word w.Static) 0 (λ k. signature l true k) (λ k. signature l false k) h)
+
+-- ---- a constructor
+
+pub constructor_fun : {ts a : List Token} (l : ℕ) → Then (Mark m.At) ts a
+    → Leads (λ k. after_fun l k) (λ k. after_at l k) ts a
+constructor_fun l h =
+    may_come (a_mark m.At) 0 (λ k. after_at l k) (λ k. named_def l k) h (omega arith)
+
+abbrev constructor_body : ℕ → (Fun → State) → Params → State
+constructor_body l k ps = a_block (λ ss. k (t.constructor l ps ss))
+
+pub no_construct : (l : ℕ) (ts : List Token) (e : Fault) → Missing a_construct ts e
+    → StopsAt (λ k. after_at l k) ts e
+no_construct l ts e h =
+    no_sign ts a_construct 0 (λ (k : Fun → State). all_params (constructor_body l k)) e h
+
+named_constructor : {ts a : List Token} (l : ℕ) → Then (Name construct) ts a
+    → Leads (λ k. after_at l k) (λ k. all_params (constructor_body l k)) ts a
+named_constructor l h = past_sign a_construct 0
+    (λ (k : Fun → State). all_params (constructor_body l k)) h (omega arith)
+
+pub bad_constructor_params : {ts a : List Token} (l : ℕ) (e : Fault) → Then (Name construct) ts a
+    → StopsAt (λ k. all_params k) a e → StopsAt (λ k. after_at l k) ts e
+bad_constructor_params l e h g =
+    faulty_in (λ k. all_params k) (λ k. constructor_body l k) e (named_constructor l h) g
+
+behind_constructor_params : {ts a c : List Token} {ps : Params} (l : ℕ)
+    → Then (Name construct) ts a → Leads (λ k. all_params k) (λ k. k ps) a c
+    → Leads (λ k. after_at l k) (λ k. constructor_body l k ps) ts c
+behind_constructor_params l h g =
+    onward (named_constructor l h) (inside (λ k. constructor_body l k) g)
+
+pub bad_constructor : {ts a c : List Token} {ps : Params} (l : ℕ) (e : Fault)
+    → Then (Name construct) ts a → Leads (λ k. all_params k) (λ k. k ps) a c
+    → StopsAt (λ k. a_block k) c e → StopsAt (λ k. after_at l k) ts e
+bad_constructor {ps = ps} l e h g i = faulty_in (λ k. a_block k)
+    (λ k ss. k (t.constructor l ps ss)) e (behind_constructor_params l h g) i
+
+pub made_constructor : {ts a c f : List Token} {ps : Params} {ss : Stmts} (l : ℕ)
+    → Then (Name construct) ts a → Leads (λ k. all_params k) (λ k. k ps) a c
+    → Leads (λ k. a_block k) (λ k. k ss) c f
+    → Leads (λ k. after_at l k) (λ k. k (t.constructor l ps ss)) ts f
+made_constructor {ps = ps} l h g i =
+    onward (behind_constructor_params l h g) (inside (λ k ss. k (t.constructor l ps ss)) i)
 
 -- ---- a class
 
@@ -318,7 +374,46 @@ pub made_member_stmt : {x : Token} {ts a b : List Token} {s : Stmt} → ts ≡ x
 made_member_stmt {x = x} {ts = ts} {a = a} q h g r =
     onward (in_member_stmt x ts a q h g) (inside (λ k. member_stmt k) r)
 
+in_member_fun : {x : Token} {ts a : List Token} → ts ≡ x ∷ a
+    → opening x.line x.kind ≡ opens_fun
+    → Leads more_members (λ k. after_fun x.line (λ f. after_member (t.fun_member f) k)) ts a
+in_member_fun {x = x} q h = first_step more_members
+    (λ k. after_fun x.line (λ f. after_member (t.fun_member f) k)) 0 q (omega arith)
+    (λ k. ap (λ o. or_else (first_member x.line o (λ y. after_member y k))
+    (step (body_end k.1 k.0) x)) h)
+
+pub bad_member_fun : {x : Token} {ts a : List Token} (e : Fault) → ts ≡ x ∷ a
+    → opening x.line x.kind ≡ opens_fun → StopsAt (λ k. after_fun x.line k) a e
+    → StopsAt more_members ts e
+bad_member_fun {x = x} e q h r = faulty_in (λ k. after_fun x.line k)
+    (λ k f. after_member (t.fun_member f) k) e (in_member_fun q h) r
+
+pub made_member_fun : {x : Token} {ts a b : List Token} {f : Fun} → ts ≡ x ∷ a
+    → opening x.line x.kind ≡ opens_fun → Leads (λ k. after_fun x.line k) (λ k. k f) a b
+    → Leads more_members (after_member (t.fun_member f)) ts b
+made_member_fun q h r =
+    onward (in_member_fun q h) (inside (λ k f. after_member (t.fun_member f) k) r)
+
 -- ---- an item
+
+in_item_fun : {x : Token} {ts a : List Token} → ts ≡ x ∷ a → opening x.line x.kind ≡ opens_fun
+    → Leads (λ xs. items xs) (λ xs. after_fun x.line (λ f. items (and_item xs (t.fun_item f)))) ts a
+in_item_fun {x = x} q h = first_step (λ xs. items xs)
+    (λ xs. after_fun x.line (λ f. items (and_item xs (t.fun_item f)))) 0 q (omega arith)
+    (λ xs. ap (λ o. or_else (first_item x.line o (λ y. items (and_item xs y)))
+    (next_end x.kind xs)) h)
+
+pub bad_item_fun : {x : Token} {ts a : List Token} (e : Fault) → ts ≡ x ∷ a
+    → opening x.line x.kind ≡ opens_fun → StopsAt (λ k. after_fun x.line k) a e
+    → StopsAt (λ xs. items xs) ts e
+bad_item_fun {x = x} e q h r = faulty_in (λ k. after_fun x.line k)
+    (λ xs f. items (and_item xs (t.fun_item f))) e (in_item_fun q h) r
+
+pub made_item_fun : {x : Token} {ts a b : List Token} {f : Fun} → ts ≡ x ∷ a
+    → opening x.line x.kind ≡ opens_fun → Leads (λ k. after_fun x.line k) (λ k. k f) a b
+    → Leads (λ xs. items xs) (λ xs. items (and_item xs (t.fun_item f))) ts b
+made_item_fun q h r =
+    onward (in_item_fun q h) (inside (λ xs f. items (and_item xs (t.fun_item f))) r)
 
 abbrev item_stmt : File → Stmt → State
 item_stmt xs s = items (and_item xs (t.stmt_item s))

@@ -1,5 +1,5 @@
 -- What the machine makes of the parts of a statement.
-use Rattle.std.proofs.Common.{◌≡◌, ℕ, suc, ◌≤◌, List, [], ◌∷◌, length, Bool, true, false, Option}
+use Rattle.std.proofs.Common.{◌≡◌, ℕ, suc, ◌≤◌, List, [], ◌∷◌, length, Bool, true, false}
 use Rattle.std.proofs.Common.{Some, None, Result, Ok, Err, refl, sym, ◌∙◌, ap, subst, arith}
 use Rattle.ck_base.specs.declared.limits.TheConstants.{MAX_NESTING}
 use Rattle.ck_lexer.specs.declared.mark.Mark.TheVariants as m
@@ -18,12 +18,13 @@ use Rattle.parse_exprs.specs.Machine.{or_else, is_shallow, sign, may, a_stmt, an
 use Rattle.parse_exprs.specs.Machine.{chucks, more_declrs, a_declr, an_expr, a_test, declares_or}
 use Rattle.parse_exprs.specs.Machine.{simple_end, first_stmt, first_expr_stmt, first_operand}
 use Rattle.parse_exprs.specs.Machine.{after_sign, given}
-use Rattle.parse_exprs.specs.Operands.{operand_from, optional}
+use Rattle.parse_exprs.specs.Operands.{operand_from}
 use Rattle.parse_exprs.specs.Reads.{Leads, StopsAt, Reads, Deepens, Missing, Agrees, is_value}
 use Rattle.parse_exprs.specs.Reads.{is_named, is_based}
 use Rattle.ck_parser.specs.Statements.{begins_stmt, has_stmt, is_plain, has_plain, next_line}
-use Rattle.ck_parser.specs.Statements.{behind_first, other_declrs, ends, for_head, do_end, tested}
+use Rattle.ck_parser.specs.Statements.{behind_first, other_declrs, ends, do_end, tested}
 use Rattle.ck_parser.specs.Statements.{after_if}
+use Rattle.parse_exprs.specs.Tokens.{opens_auto}
 use Rattle.parse_exprs.specs.Tokens.{Then, then, Opening, atom, named, prefixed, based, opens_paren}
 use Rattle.parse_exprs.specs.Tokens.{opens_array, opens_new, opens_spork, opens_static, opens_block}
 use Rattle.parse_exprs.specs.Tokens.{opens_empty, opens_print, opens_if, opens_while, opens_until}
@@ -107,6 +108,7 @@ beginning d l opens_array k h = one_deeper d _ refl
 beginning d l opens_new k h = one_deeper d _ refl
 beginning d l opens_spork k h = one_deeper d _ refl
 beginning d l opens_static k h = at_depth d _ refl
+beginning d l opens_auto k h = at_depth d _ refl
 beginning d l opens_block k h = at_depth d _ refl
 beginning d l opens_empty k h = at_depth d _ refl
 beginning d l opens_print k h = at_depth d _ refl
@@ -216,7 +218,7 @@ made_empty {rest = rest} d l (then {l = i} {a = a}) e h = record {
       (k (t.empty l)) d (ap (λ z. Some (d, k (t.empty z))) (sym e)) h;
 }
 
-abbrev is_empty : Opening → Bool
+abbrev pub is_empty : Opening → Bool
 is_empty opens_empty = true
 is_empty _ = false
 
@@ -229,7 +231,7 @@ not_empty_mark : (l : ℕ) (x : AMark) → is_sign (Mark x) (a_mark m.Semicolon)
 not_empty_mark l m.Semicolon h = cc
 not_empty_mark l _ h = refl
 
-not_empty : (l : ℕ) (j : TokenKind) → is_sign j (a_mark m.Semicolon) ≡ false
+pub not_empty : (l : ℕ) (j : TokenKind) → is_sign j (a_mark m.Semicolon) ≡ false
     → is_empty (opening l j) ≡ false
 not_empty l (Word x) h = not_empty_word l x
 not_empty l (Mark x) h = not_empty_mark l x h
@@ -240,7 +242,7 @@ no_empty : (d l : ℕ) (k : KS) (o : Opening) → is_empty o ≡ false → first
 no_empty d l k opens_empty h = cc
 no_empty d l k _ h = refl
 
-has_at : (j : Sign) {x : Token} {ts rest : List Token} → ts ≡ x ∷ rest → has j ts ≡ false
+pub has_at : (j : Sign) {x : Token} {ts rest : List Token} → ts ≡ x ∷ rest → has j ts ≡ false
     → is_sign x.kind j ≡ false
 has_at j e h = ap (has j) (sym e) ∙ h
 
@@ -330,37 +332,6 @@ in_parens d e q p h = token (λ k. a_test d k) (λ k. closed e k) e q h
 pub deep_parens : {a b : List Token} (d : ℕ) (e : Fault) → Then (Mark m.LeftParen) a b
     → Deepens d a (Err e) → StopsAt (λ (k : K1). a_test d k) a e
 deep_parens d e q h = deepened (λ k. a_test d k) (λ k. closed (suc d) k) d e q h (λ l a k. refl)
-
--- the parentheses of a `for`
-abbrev pub KF : Type 0
-KF = Stmt → Stmt → Option Expr → State
-
-abbrev pub third : ℕ → KF → Stmt → Stmt → State
-third e k x y = optional e (a_mark m.RightParen) (k x y)
-
-abbrev pub second : ℕ → KF → Stmt → State
-second e k x = an_expr_stmt e (third e k x)
-
-pub in_for : {a b : List Token} (d e : ℕ) → Then (Mark m.LeftParen) a b → e ≡ suc d
-    → e ≤ MAX_NESTING → Leads (λ (k : KF). for_head d k) (λ k. an_expr_stmt e (second e k)) a b
-in_for d e q p h = token (λ k. for_head d k) (λ k. an_expr_stmt e (second e k)) e q h
-    (λ l a k. ap (λ z. Some (z, an_expr_stmt z (second z k))) (sym p))
-
-pub deep_for : {a b : List Token} (d : ℕ) (e : Fault) → Then (Mark m.LeftParen) a b
-    → Deepens d a (Err e) → StopsAt (λ (k : KF). for_head d k) a e
-deep_for d e q h = deepened (λ k. for_head d k) (λ k. an_expr_stmt (suc d) (second (suc d) k)) d
-    e q h (λ l a k. refl)
-
-pub behind_start : {x : Stmt} {a b c : List Token} (d e : ℕ) → Then (Mark m.LeftParen) a b
-    → e ≡ suc d → e ≤ MAX_NESTING → Leads (λ (k : KS). an_expr_stmt e k) (λ k. k x) b c
-    → Leads (λ (k : KF). for_head d k) (λ k. an_expr_stmt e (third e k x)) a c
-behind_start d e q p h r = onward (in_for d e q p h) (inside (λ k. second e k) r)
-
-pub behind_test : {x y : Stmt} {a b c f : List Token} (d e : ℕ) → Then (Mark m.LeftParen) a b
-    → e ≡ suc d → e ≤ MAX_NESTING → Leads (λ (k : KS). an_expr_stmt e k) (λ k. k x) b c
-    → Leads (λ (k : KS). an_expr_stmt e k) (λ k. k y) c f
-    → Leads (λ (k : KF). for_head d k) (λ k. third e k x y) a f
-behind_test {x = x} d e q p h r g = onward (behind_start d e q p h r) (inside (λ k. third e k x) g)
 
 -- ---- behind the first token
 
@@ -457,6 +428,7 @@ agrees_plain o seen.Array h i = ap is_plain h
 agrees_plain o seen.New h i = ap is_plain h
 agrees_plain o seen.Spork h i = ap is_plain h
 agrees_plain o seen.Static h i = ap is_plain h
+agrees_plain o seen.Auto h i = ap is_plain h
 agrees_plain o seen.Block h i = cc
 agrees_plain o seen.Empty h i = ap is_plain h
 agrees_plain o seen.Print h i = ap is_plain h
@@ -485,6 +457,7 @@ agrees_simple o seen.Array h p i = ap is_simple h
 agrees_simple o seen.New h p i = ap is_simple h
 agrees_simple o seen.Spork h p i = ap is_simple h
 agrees_simple o seen.Static h p i = ap is_simple h
+agrees_simple o seen.Auto h p i = ap is_simple h
 agrees_simple o seen.Block h p i = absurd (false_true (sym (ap is_plain h) ∙ p))
 agrees_simple o seen.Empty h p i = ap is_simple h
 agrees_simple o seen.Print h p i = cc

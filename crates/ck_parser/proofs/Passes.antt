@@ -1,5 +1,6 @@
 -- What has a form in the grammar is passed by the machine, which then holds its tree, and gives
 -- its depths.
+use Rattle.std.proofs.Common.{Option}
 use Rattle.std.proofs.Common.{◌≡◌, ℕ, suc, ◌+◌, ◌≤◌, List, [], ◌∷◌, length, Bool, true, false}
 use Rattle.std.proofs.Common.{Some, None, refl, sym, ◌∙◌, ap, subst, arith, eq-eqb}
 use Rattle.ck_lexer.specs.declared.mark.Mark.{Mark as AMark}
@@ -13,19 +14,24 @@ use Rattle.parse_exprs.specs.declared.follow.Follow.TheVariants as f
 use Rattle.ck_parser.specs.Depth.{one_if, pairs_depths, type_depths, head_depths, behind}
 use Rattle.ck_parser.specs.Depth.{expr_depths, exprs_depths, before_comma, sizes_depths}
 use Rattle.ck_parser.specs.Depth.{brackets_depths}
+use Rattle.ck_parser.specs.Grammar.{IsHeadBase, of_typed, of_auto}
 use Rattle.ck_parser.specs.Grammar.{IsBase, of_word, of_class, IsPairs, of_no_pairs, of_pair}
 use Rattle.ck_parser.specs.Grammar.{IsType, of_base, IsAt, of_no_at, of_at, IsHead, of_head}
 use Rattle.ck_parser.specs.Grammar.{of_static, IsPrimary, of_atom, of_name, of_paren, of_array}
 use Rattle.ck_parser.specs.Grammar.{IsExprs, of_first, of_next, IsPostfix, of_primary}
 use Rattle.ck_parser.specs.Grammar.{of_call_empty, of_call, of_index, of_member, of_postfix, IsDur}
 use Rattle.ck_parser.specs.Grammar.{of_one, of_dur, IsSizes, of_no_sizes, of_size, IsUnary}
-use Rattle.ck_parser.specs.Grammar.{of_plain, of_prefix, of_new, of_spork, IsCast, of_unary}
+use Rattle.ck_parser.specs.Grammar.{of_plain, of_prefix, of_new, of_new_with, of_spork, IsCast, of_unary}
 use Rattle.ck_parser.specs.Grammar.{of_cast, IsLevel, of_operand, of_tighter, of_binary, IsCond}
 use Rattle.ck_parser.specs.Grammar.{of_or, of_choice, IsBrackets, of_no_brackets, of_empty_bracket}
-use Rattle.ck_parser.specs.Grammar.{of_bracket, of_declr, IsOperand, of_declare, of_cond, IsExpr}
+use Rattle.ck_parser.specs.Grammar.{IsArguments, of_none_given, of_arguments}
+use Rattle.ck_parser.specs.Grammar.{of_bracket, of_declr, of_declr_with, IsOperand, of_declare, of_cond, IsExpr}
 use Rattle.ck_parser.specs.Grammar.{of_single, of_chuck}
+use Rattle.parse_exprs.specs.Machine.{a_declared}
+use Rattle.parse_exprs.specs.Machine.{a_head_base}
 use Rattle.parse_exprs.specs.Machine.{State, may, a_base, pairs, postfix, unary, operand, declared}
 use Rattle.parse_exprs.specs.Machine.{declared_or, calls, durs, casts, joins, asks, chucks}
+use Rattle.parse_exprs.specs.Machine.{arguments, declr_rest}
 use Rattle.parse_exprs.specs.Machine.{brackets, sizes, more_exprs, Next, or_else, given, joined}
 use Rattle.parse_exprs.specs.Machine.{cond_rest, a_cond, an_expr, some_exprs, a_type, first_postfix}
 use Rattle.parse_exprs.specs.Machine.{first_unary, first_operand, next_call, next_dur, next_cast}
@@ -35,10 +41,12 @@ use Rattle.parse_exprs.specs.Machine.{heights}
 use Rattle.parse_exprs.specs.Reads.{is_declared, begins_declared}
 use Rattle.parse_exprs.proofs.Ranks.{rank, none_call, none_dur, none_cast, none_join, none_ask}
 use Rattle.parse_exprs.proofs.Ranks.{none_chuck}
+use Rattle.parse_exprs.specs.Tokens.{opens_auto, a_word}
 use Rattle.parse_exprs.specs.Tokens.{begins, Then, then, Opening, atom, named, prefixed, based}
-use Rattle.parse_exprs.specs.Tokens.{opens_paren, opens_array, opens_new, opens_spork, opens_static}
-use Rattle.parse_exprs.specs.Tokens.{opens_fun, opens_class, opens_public, opens_nothing, opening}
+use Rattle.parse_exprs.specs.Tokens.{opens_new, opens_spork, opens_static}
+use Rattle.parse_exprs.specs.Tokens.{opening}
 use Rattle.parse_exprs.specs.Tokens.{follow, level, Sign, a_mark, is_sign, has}
+use Rattle.ck_parser.proofs.Openings.{Head, opens-cond, opens-expr, opens-postfix, sort}
 use Rattle.ck_syntax.specs.Tree as t
 use Rattle.ck_syntax.specs.Tree.{Expr, Exprs, Brackets, Declr, Declrs, expr_line, no_exprs}
 use Rattle.ck_syntax.specs.Tree.{and_expr, no_brackets, and_empty, and_size, declr, no_declrs}
@@ -203,6 +211,10 @@ no_bracket : (k : TokenKind) → 1 ≤ rank (follow k) → is_sign k (a_mark m.L
 no_bracket (Mark m.LeftBracket) h = absurd (omega arith)
 no_bracket _ h = refl
 
+no_call : (k : TokenKind) → 1 ≤ rank (follow k) → is_sign k (a_mark m.LeftParen) ≡ false
+no_call (Mark m.LeftParen) h = absurd (omega arith)
+no_call _ h = refl
+
 level-le : (o : BinaryOp) → level o ≤ 9
 level-le b.Mul = omega arith
 level-le b.Div = omega arith
@@ -235,93 +247,24 @@ pub no_comma_at : {k : TokenKind} {ts rest : List Token} (x : Follow) → rank x
     → Then k ts rest → follow k ≡ x → has (a_mark m.Comma) ts ≡ false
 no_comma_at {k} x h then e = no_comma k (subst (λ y. rank y ≤ 14) (sym e) h)
 
+no_colon : (k : TokenKind) → rank (follow k) ≤ 14 → is_sign k (a_mark m.Colon) ≡ false
+no_colon (Mark m.Colon) h = absurd (omega arith)
+no_colon _ h = refl
+
+pub no_colon_at : {k : TokenKind} {ts rest : List Token} (x : Follow) → rank x ≤ 14
+    → Then k ts rest → follow k ≡ x → has (a_mark m.Colon) ts ≡ false
+no_colon_at {k} x h then e = no_colon k (subst (λ y. rank y ≤ 14) (sym e) h)
+
 pub no_bracket_at : (ts : List Token) → 1 ≤ next_rank ts → has (a_mark m.LeftBracket) ts ≡ false
 no_bracket_at [] h = refl
 no_bracket_at (x ∷ ts) h = no_bracket x.kind h
 
+pub no_call_at : (ts : List Token) → 1 ≤ next_rank ts → has (a_mark m.LeftParen) ts ≡ false
+no_call_at [] h = refl
+no_call_at (x ∷ ts) h = no_call x.kind h
+
 pub looser : {n m : ℕ} {ts : List Token} → Loose n ts → m ≤ n → Loose m ts
 looser h i = let r = h.rank in record { rank = omega arith; no_name = h.no_name }
-
--- ---- what a form begins with
-
--- 0 a Postfix, 1 a Unary, 2 an Expr, 3 a Stmt, 4 something else
-abbrev pub sort : Opening → ℕ
-sort (atom e) = 0
-sort (named n) = 0
-sort opens_paren = 0
-sort opens_array = 0
-sort (prefixed o) = 1
-sort opens_new = 1
-sort opens_spork = 1
-sort (based b) = 2
-sort opens_static = 2
-sort opens_fun = 4
-sort opens_class = 4
-sort opens_public = 4
-sort opens_nothing = 4
-sort _ = 3
-
--- the first token begins a form of this sort, or of a lower one
-abbrev pub Head : ℕ → List Token → Type 0
-Head n [] = ⊥
-Head n (x ∷ ts) = sort (opening x.line x.kind) ≤ n
-
-pub higher : (m n : ℕ) (ts : List Token) → m ≤ n → Head m ts → Head n ts
-higher m n [] h i = i
-higher m n (x ∷ ts) h i = omega arith
-
-opens-base : {l : ℕ} {b : Base} {ts rest : List Token} → IsBase ts l b rest → Head 2 ts
-opens-base (of_word begins h) = subst (λ o. sort o ≤ 2) (sym h) (omega arith)
-opens-base (of_class begins) = omega arith
-
-pub opens-head : {l : ℕ} {h : DeclHead} {ts rest : List Token} → IsHead ts l h rest → Head 2 ts
-opens-head (of_head b r) = opens-base b
-opens-head (of_static begins b r) = omega arith
-
-opens-primary : {ts rest : List Token} {e : Expr} → IsPrimary ts e rest → Head 0 ts
-opens-primary (of_atom begins h) = subst (λ o. sort o ≤ 0) (sym h) (omega arith)
-opens-primary (of_name begins) = omega arith
-opens-primary (of_paren begins i r) = omega arith
-opens-primary (of_array begins i r) = omega arith
-
-opens-postfix : {ts rest : List Token} {e : Expr} → IsPostfix ts e rest → Head 0 ts
-opens-postfix (of_primary i) = opens-primary i
-opens-postfix (of_call_empty i p r) = opens-postfix i
-opens-postfix (of_call i p j r) = opens-postfix i
-opens-postfix (of_index i p j r) = opens-postfix i
-opens-postfix (of_member i p n) = opens-postfix i
-opens-postfix (of_postfix i p h) = opens-postfix i
-
-opens-dur : {ts rest : List Token} {e : Expr} → IsDur ts e rest → Head 0 ts
-opens-dur (of_one i) = opens-postfix i
-opens-dur (of_dur i p j) = opens-dur i
-
-opens-unary : {ts rest : List Token} {e : Expr} → IsUnary ts e rest → Head 1 ts
-opens-unary {ts} (of_plain i) = higher 0 1 ts (omega arith) (opens-dur i)
-opens-unary (of_prefix begins h i) = subst (λ o. sort o ≤ 1) (sym h) (omega arith)
-opens-unary (of_new begins b i) = omega arith
-opens-unary (of_spork begins p i) = omega arith
-
-opens-cast : {ts rest : List Token} {e : Expr} → IsCast ts e rest → Head 1 ts
-opens-cast (of_unary i) = opens-unary i
-opens-cast (of_cast i p k) = opens-cast i
-
-opens-level : {n : ℕ} {ts rest : List Token} {e : Expr} → IsLevel n ts e rest → Head 1 ts
-opens-level (of_operand i) = opens-cast i
-opens-level (of_tighter i) = opens-level i
-opens-level (of_binary i p h e j) = opens-level i
-
-opens-cond : {ts rest : List Token} {e : Expr} → IsCond ts e rest → Head 1 ts
-opens-cond (of_or i) = opens-level i
-opens-cond (of_choice i p j q l) = opens-level i
-
-opens-operand : {ts rest : List Token} {e : Expr} → IsOperand ts e rest → Head 2 ts
-opens-operand (of_declare h x) = opens-head h
-opens-operand {ts} (of_cond i) = higher 1 2 ts (omega arith) (opens-cond i)
-
-pub opens-expr : {ts rest : List Token} {e : Expr} → IsExpr ts e rest → Head 2 ts
-opens-expr (of_single i) = opens-operand i
-opens-expr (of_chuck i p h j) = opens-expr i
 
 -- ---- behind a name that is a value neither a name nor `@` comes next
 
@@ -358,6 +301,7 @@ second-unary (of_prefix begins h i) g = λ n e. absurd (prefix_named (sym h ∙ 
     prefix_named : {o : _} {n : t.Name} → prefixed o ≡ named n → ⊥
     prefix_named h = cc
 second-unary (of_new begins b i) g = λ n e. cc
+second-unary (of_new_with begins b i) g = λ n e. cc
 second-unary (of_spork begins p i) g = λ n e. cc
 
 second-cast : {ts rest : List Token} {e : Expr} → IsCast ts e rest
@@ -412,6 +356,7 @@ as_cond (x ∷ ts) d h k i j = go (opening x.line x.kind) refl i j
         → Passes (x ∷ ts) (operand d h k) (λ ds. ds) (x ∷ ts) (unary d (λ e c. cond_rest c e k))
     go (based b) e i j = absurd (omega arith)
     go opens_static e i j = absurd (omega arith)
+    go opens_auto e i j = absurd (omega arith)
     go (named n) e i j = past_name n e (j n refl)
     go _ e i j = same_head (ap (λ o. first_operand d x.line o h k) e
         ∙ sym (ap (λ o. first_unary d x.line o (λ e c. cond_rest c e k)) e))
@@ -422,6 +367,16 @@ pub pass-base : {l : ℕ} {b : Base} {ts rest : List Token} → IsBase ts l b re
     → (d : ℕ) (k : Base → State) → Passes ts (a_base d k) (λ ds. d ∷ ds) rest (k b)
 pass-base (of_word begins h) d k = past (ap (next_base d k) h)
 pass-base (of_class begins) d k = past refl
+
+no_auto : {l : ℕ} {b : Base} {ts rest : List Token} → IsBase ts l b rest
+    → has (a_word w.Auto) ts ≡ false
+no_auto (of_word {k = k} {l = l} begins h) = go k h
+  where
+    go : {b : Base} (k : TokenKind) → opening l k ≡ based b → is_sign k (a_word w.Auto) ≡ false
+    go (Word w.Auto) h = cc
+    go (Mark x) h = refl
+    go _ h = refl
+no_auto (of_class begins) = refl
 
 pub pass-pairs : {n : ℕ} {ts rest : List Token} → IsPairs ts n rest → (d : ℕ) (k : ℕ → State)
     → Passes ts (pairs d 0 k) (pairs_depths d n) rest (pairs d n k)
@@ -447,16 +402,25 @@ pass-at_or : {r : Bool} {n : t.Name} {ts a rest : List Token} → IsAt ts r a
 pass-at_or of_no_at then d k s = past refl
 pass-at_or (of_at then) then d k s = onward (past refl) (past refl)
 
+pass-head_base : {l : ℕ} {b : Option Base} {ts rest : List Token} → IsHeadBase ts l b rest
+    → (d : ℕ) (k : Option Base → State) → Passes ts (a_head_base d k) (λ ds. d ∷ ds) rest (k b)
+pass-head_base (of_typed {ts = ts} b) d k =
+    onward (skip_may ts d _ _ _ (no_auto b)) (pass-base b d _)
+pass-head_base (of_auto begins) d k = past refl
+
 -- the head of a declaration and its name
 pub pass-head : {l : ℕ} {h : DeclHead} {n : t.Name} {ts a rest : List Token} → IsHead ts l h a
     → Then (Name n) a rest → (d : ℕ) (g : ℕ → DeclHead → Declr → State) (k : Expr → ℕ → State)
     → Passes ts (operand d g k) (λ ds. head_depths d h (d ∷ ds)) rest
-    (brackets d no_brackets (λ bs. g l h (declr n bs)))
-pass-head (of_head (of_word {l = l} begins e) r) q d g k =
+    (declr_rest d n (λ x. g l h x))
+pass-head (of_head (of_typed (of_word {l = l} begins e)) r) q d g k =
     onward (past (ap (λ o. first_operand d l o g k) e)) (pass-at r q d _)
-pass-head (of_head (of_class begins) r) q d g k = onward (past refl) (pass-at_or r q d _ _)
-pass-head (of_static begins b r) q d g k =
-    onward (past refl) (onward (pass-base b d _) (pass-at r q d _))
+pass-head (of_head (of_typed (of_class begins)) r) q d g k =
+    onward (past refl) (pass-at_or r q d _ _)
+pass-head (of_head (of_auto begins) r) q d g k = onward (past refl) (pass-at r q d _)
+pass-head (of_static {l = l} {b = base} begins b r) q d g k =
+    onward (past refl) (onward (pass-head_base b d (λ b. declared d (a_declared d l true b g)))
+    (pass-at r q d (a_declared d l true base g)))
 
 -- ---- expressions
 
@@ -613,6 +577,18 @@ past_join : {k : TokenKind} {ts rest : List Token} (n : ℕ) (o : BinaryOp) → 
 past_join n o p h q d e c = past_operator (f.Binary o) _ _ _ (next_join n d e c) (step (c e d))
     p h (λ y. refl) (join_taken n o d e c q)
 
+-- no '(' stands behind brackets, so it doesn't before them
+no_paren_brackets : {ts rest : List Token} {bs : Brackets} → IsBrackets ts bs rest
+    → has (a_mark m.LeftParen) rest ≡ false → has (a_mark m.LeftParen) ts ≡ false
+no_paren_brackets of_no_brackets h = h
+no_paren_brackets (of_empty_bracket i then then) h = no_paren_brackets i refl
+no_paren_brackets (of_bracket i then j then) h = no_paren_brackets i refl
+
+no_paren_sizes : {ts rest : List Token} {es : Exprs} → IsSizes ts es rest
+    → has (a_mark m.LeftParen) rest ≡ false → has (a_mark m.LeftParen) ts ≡ false
+no_paren_sizes of_no_sizes h = h
+no_paren_sizes (of_size i then j then) h = no_paren_sizes i refl
+
 mutual
   pass-primary : {ts rest : List Token} {e : Expr} → IsPrimary ts e rest
       → (d : ℕ) (k : Expr → ℕ → State)
@@ -673,9 +649,15 @@ mutual
       onward (pass-dur i (omega arith) d k) (skip_durs rest _ _ k h)
   pass-unary (of_prefix {l = l} begins g i) h d k =
       onward (past (ap (λ o. first_unary d l o k) g)) (pass-unary i h (suc d) _)
-  pass-unary {rest = rest} (of_new begins b i) h d k = onward (past refl)
-      (onward (pass-base b (suc d) _) (onward (pass-sizes i (suc d) _)
-      (skip_sizes rest _ _ _ (no_bracket_at rest (omega arith)))))
+  pass-unary {rest = rest} (of_new {c = c} begins b i) h d k = onward (past refl)
+      (onward (pass-base b (suc d) _)
+      (onward (skip_may c _ _ _ _ (no_paren_sizes i (no_call_at rest (omega arith))))
+      (onward (pass-sizes i (suc d) _)
+      (skip_sizes rest _ _ _ (no_bracket_at rest (omega arith))))))
+  pass-unary (of_new_with {l = l} {b = base} begins b i) h d k = onward (past refl)
+      (onward (pass-base b (suc d) _) (pass-arguments i (suc d)
+      (λ es. k (t.new_with l base es) (suc d))
+      (sizes (suc d) no_exprs (λ es. k (t.new l base es) (suc d)))))
   pass-unary (of_spork begins then i) h d k = onward (past refl)
       (onward (past refl) (whole_postfix (omega arith) (pass-postfix i (suc d) _)))
 
@@ -735,15 +717,31 @@ mutual
       (onward (past refl) (onward (skip_may b _ _ _ _ (no_square b (opens-expr j)))
       (onward (whole (shut refl refl) (λ r. pass-expr j r _ _)) (past refl))))
 
+  -- arguments, where they may stand
+  pub pass-arguments : {ts rest : List Token} {es : Exprs} → IsArguments ts es rest
+      → (d : ℕ) (k : Exprs → State) (r : State)
+      → Passes ts (may (suc d) (a_mark m.LeftParen) (arguments (suc d) k) r)
+      (λ ds. suc d ∷ exprs_depths (suc d) es (suc d ∷ ds)) rest (k es)
+  pass-arguments (of_none_given then then) d k r = onward (past refl) (past refl)
+  pass-arguments (of_arguments {a = a} then i then) d k r = onward (past refl)
+      (onward (skip_may a _ _ _ _ (no_paren a (opens-exprs i)))
+      (onward (whole_exprs refl (pass-more i (shut refl refl) _ _)) (past refl)))
+
   -- a declaration or a value, where a declaration goes on as a value does
   pub pass-operand : {ts rest : List Token} {e : Expr} → IsOperand ts e rest → Loose 14 rest
       → (d : ℕ) (g : ℕ → DeclHead → Declr → State) (k : Expr → ℕ → State)
       → ((l : ℕ) (h : DeclHead) (x : Declr)
       → Passes rest (g l h x) (λ ds. ds) rest (k (t.declare l h x) d))
       → Passes ts (operand d g k) (expr_depths d e) rest (k e (behind d e))
-  pass-operand {rest = rest} (of_declare i (of_declr p j)) h d g k q = let r = h.rank in
-      onward (pass-head i p d g k) (onward (pass-brackets j d _)
-      (onward (skip_brackets rest _ _ _ (no_bracket_at rest (omega arith))) (q _ _ _)))
+  pass-operand {rest = rest} (of_declare i (of_declr {a = a} p j)) h d g k q = let r = h.rank in
+      onward (pass-head i p d g k)
+      (onward (skip_may a _ _ _ _ (no_paren_brackets j (no_call_at rest (omega arith))))
+      (onward (pass-brackets j d _)
+      (onward (skip_brackets rest _ _ _ (no_bracket_at rest (omega arith))) (q _ _ _))))
+  pass-operand (of_declare {l = l} {h = head} i (of_declr_with {n = n} p j)) h d g k q =
+      onward (pass-head i p d g k) (onward (pass-arguments j d
+      (λ es. g l head (t.declr_with n es)) (brackets d no_brackets (λ bs. g l head (declr n bs))))
+      (q _ _ _))
   pass-operand {ts} (of_cond i) h d g k q = onward
       (as_cond ts d g k (opens-cond i) (second-cond i h.no_name)) (pass-cond i h.rank d k)
 
@@ -755,3 +753,12 @@ mutual
       (pass-expr i (after_operator (f.Chuck o) (omega arith) (omega arith) p g) d k)
       (onward (past_chuck p g _ _ k) (pass-operand j h _ _
       (λ g c. chucks c (t.chuck (expr_line e) e o g) k) (λ l h x. stay)))
+
+-- what stands behind a declared name
+pub pass-rest : {n : t.Name} {ts rest : List Token} {bs : Brackets} → IsBrackets ts bs rest
+    → has (a_mark m.LeftParen) rest ≡ false → has (a_mark m.LeftBracket) rest ≡ false
+    → (d : ℕ) (k : Declr → State)
+    → Passes ts (declr_rest d n k) (brackets_depths d bs) rest (k (declr n bs))
+pass-rest {ts = ts} {rest = rest} i h g d k =
+    onward (skip_may ts _ _ _ _ (no_paren_brackets i h))
+    (onward (pass-brackets i d _) (skip_brackets rest _ _ _ g))

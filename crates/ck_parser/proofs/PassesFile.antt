@@ -1,18 +1,24 @@
 -- The same for statements and all that is made of them.
-use Rattle.std.proofs.Common.{◌≡◌, ℕ, suc, ◌≤◌, List, [], ◌∷◌, Bool, true, false, Option, Some}
+use Rattle.std.proofs.Common.{◌≡◌, ℕ, zero, suc, ◌≤◌, List, [], ◌∷◌, Bool, true, false, Option, Some}
 use Rattle.std.proofs.Common.{None, refl, sym, ◌∙◌, ap, subst, arith}
+use Rattle.std.specs.Option.{option_map}
+use Rattle.std.proofs.lemmas.Option.{same_Some}
 use Rattle.ck_lexer.specs.declared.mark.Mark.TheVariants as m
 use Rattle.ck_lexer.specs.declared.token.Token.{Token}
 use Rattle.ck_lexer.specs.declared.token.TokenKind.{TokenKind}
 use Rattle.ck_lexer.specs.declared.token.TokenKind.TheVariants.{Word, Mark, Name}
 use Rattle.ck_lexer.specs.declared.word.Word.TheVariants as w
 use Rattle.parse_exprs.specs.declared.follow.Follow.TheVariants as f
+use Rattle.ck_parser.specs.Depth.{brackets_depths, pairs_depths}
 use Rattle.ck_parser.specs.Depth.{type_depths, head_depths, behind, expr_depths, declr_depths}
 use Rattle.ck_parser.specs.Depth.{declrs_depths, declrs_before_comma, test_depths, option_depths}
 use Rattle.ck_parser.specs.Depth.{stmt_depths, stmts_depths, param_depths, params_depths}
 use Rattle.ck_parser.specs.Depth.{params_before_comma, fun_depths, member_depths, members_depths}
 use Rattle.ck_parser.specs.Depth.{parent_depths, item_depths, items_depths, file_depths}
-use Rattle.ck_parser.specs.Grammar.{of_word, of_class, IsType, of_base, IsHead, IsDeclr, of_declr}
+use Rattle.ck_parser.specs.Grammar.{IsHeadBase, of_constructor}
+use Rattle.ck_parser.specs.Grammar.{of_word, of_class, IsType, of_base, IsHead, of_head, IsDeclr, of_declr}
+use Rattle.ck_parser.specs.Grammar.{of_declr_with, IsAt, IsPairs, of_no_pairs, of_pair}
+use Rattle.ck_parser.specs.Grammar.{IsBrackets, of_no_brackets, of_empty_bracket, of_for_each}
 use Rattle.ck_parser.specs.Grammar.{IsExpr, of_single, of_chuck, IsDeclrs, of_two, of_another}
 use Rattle.ck_parser.specs.Grammar.{IsExprStmt, of_empty, of_expr, of_declares, IsTest, of_test}
 use Rattle.ck_parser.specs.Grammar.{IsMaybe, of_none, of_some, IsStmt, of_block, of_expr_stmt}
@@ -27,13 +33,16 @@ use Rattle.ck_parser.specs.Grammar.{of_class_word, of_public_class, IsParent, of
 use Rattle.ck_parser.specs.Grammar.{of_extends, of_class_def, IsItem, of_class_item, of_fun_item}
 use Rattle.ck_parser.specs.Grammar.{of_stmt_item, IsItems, of_no_items, of_more_items, IsFile}
 use Rattle.ck_parser.specs.Grammar.{of_file}
+use Rattle.parse_exprs.specs.Machine.{with_params}
 use Rattle.parse_exprs.specs.Machine.{State, done, sign, may, a_name, pairs, operand, chucks}
 use Rattle.parse_exprs.specs.Machine.{more_declrs, an_expr_stmt, a_stmt, stmts, more_params}
 use Rattle.parse_exprs.specs.Machine.{members, items, Next, or_else, an_expr, a_declr, a_test}
 use Rattle.parse_exprs.specs.Machine.{first_operand, after_sign, step, run, heights, simple_end}
 use Rattle.parse_exprs.specs.Machine.{declares_or, first_expr_stmt, first_stmt, a_block, a_param}
-use Rattle.parse_exprs.specs.Machine.{after_fun, after_name, after_class, signature, first_member}
+use Rattle.parse_exprs.specs.Machine.{after_fun, after_class, signature, first_member}
 use Rattle.parse_exprs.specs.Machine.{first_item, start, accepted, Stop}
+use Rattle.parse_exprs.specs.Machine.{brackets, for_start, first_start, each_or, after_colon, each_pairs, colon_or}
+use Rattle.parse_exprs.specs.Machine.{empty_pairs}
 use Rattle.parse_exprs.specs.Tokens.{begins, Then, then, Opening, based, opens_empty, opens_block}
 use Rattle.parse_exprs.specs.Tokens.{opens_print, opens_if, opens_while, opens_until, opens_do}
 use Rattle.parse_exprs.specs.Tokens.{opens_for, opens_repeat, opens_break, opens_continue}
@@ -44,17 +53,19 @@ use Rattle.ck_syntax.specs.Tree.{Expr, Exprs, Brackets, Declr, Declrs, Stmt, Stm
 use Rattle.ck_syntax.specs.Tree.{Member, Members, Class, Item, File, no_stmts, and_stmt, no_params}
 use Rattle.ck_syntax.specs.Tree.{and_param, no_members, and_member, no_items, and_item, expr_line}
 use Rattle.ck_syntax.specs.Tree.{no_exprs, and_expr, no_brackets, and_empty, and_size, declr}
-use Rattle.ck_syntax.specs.Tree.{no_declrs, and_declr}
+use Rattle.ck_syntax.specs.Tree.{no_declrs, and_declr, declr_with, declr_name}
 use Rattle.ck_syntax.specs.declared.declaration.Base.{Base}
 use Rattle.ck_syntax.specs.declared.declaration.DeclHead.{DeclHead}
 use Rattle.ck_syntax.specs.declared.declaration.TypeName.{TypeName}
 use Rattle.ck_syntax.specs.declared.file.Param.{Param}
 use Rattle.ck_parser.proofs.Passes.{any, Passes, stay, past, onward, same_head, skip, missing}
-use Rattle.ck_parser.proofs.Passes.{skip_may, skip_pairs, skip_brackets, Loose, sort, Head, higher}
-use Rattle.ck_parser.proofs.Passes.{opens-head, opens-expr, no_comma_at, no_paren, no_semicolon}
+use Rattle.ck_parser.proofs.Passes.{skip_may, skip_pairs, Loose}
+use Rattle.ck_parser.proofs.Openings.{sort, Head, higher}
+use Rattle.ck_parser.proofs.Passes.{no_comma_at, no_colon_at, no_paren, no_semicolon}
+use Rattle.ck_parser.proofs.Openings.{opens-head, opens-expr}
 use Rattle.ck_parser.proofs.Passes.{pass-pairs, pass-type, pass-head, shut, reshape, whole}
 use Rattle.ck_parser.proofs.Passes.{whole_exprs, after_operator, past_chuck, pass-more}
-use Rattle.ck_parser.proofs.Passes.{pass-brackets, pass-operand, pass-expr}
+use Rattle.ck_parser.proofs.Passes.{pass-operand, pass-expr, pass-rest, pass-arguments}
 
 skip_more_declrs : (ts : List Token) (d : ℕ) (xs : Declrs) (k : Declrs → State)
     → has (a_mark m.Comma) ts ≡ false → Passes ts (more_declrs d xs k) (λ ds. ds) ts (k xs)
@@ -63,11 +74,33 @@ skip_more_declrs ts d xs k h = skip ts _ _ (λ x. after_sign x.kind (a_mark m.Co
 
 -- ---- the statement of an expression
 
-pass-declr : {x : Declr} {ts rest : List Token} → IsDeclr ts x rest
-    → has (a_mark m.LeftBracket) rest ≡ false → (d : ℕ) (k : Declr → State)
+-- neither '(' nor '[' comes next
+pub record Bare (ts : List Token) : Type 0 where
+  pub paren : has (a_mark m.LeftParen) ts ≡ false
+  pub bracket : has (a_mark m.LeftBracket) ts ≡ false
+
+pass-declr : {x : Declr} {ts rest : List Token} → IsDeclr ts x rest → Bare rest
+    → (d : ℕ) (k : Declr → State)
     → Passes ts (a_declr d k) (declr_depths d x) rest (k x)
-pass-declr {rest = rest} (of_declr then i) h d k =
-    onward (past refl) (onward (pass-brackets i d _) (skip_brackets rest d _ _ h))
+pass-declr (of_declr then i) h d k =
+    onward (past refl) (pass-rest i h.paren h.bracket d k)
+pass-declr (of_declr_with {n = n} then i) h d k = onward (past refl)
+    (pass-arguments i d (λ es. k (declr_with n es)) (brackets d no_brackets (λ bs. k (declr n bs))))
+
+bare : {x : Token} {ts : List Token} → is_sign x.kind (a_mark m.LeftParen) ≡ false
+    → is_sign x.kind (a_mark m.LeftBracket) ≡ false → Bare (x ∷ ts)
+bare p b = record { paren = p; bracket = b }
+
+-- a declarator behind its head
+pass-declared : {l : ℕ} {h : DeclHead} {x : Declr} {ts a rest : List Token} → IsHead ts l h a
+    → IsDeclr a x rest → Bare rest → (d : ℕ) (g : ℕ → DeclHead → Declr → State)
+    (k : Expr → ℕ → State)
+    → Passes ts (operand d g k) (λ ds. head_depths d h (declr_depths d x ds)) rest (g l h x)
+pass-declared {l = l} {h = head} i (of_declr {n = n} p j) h d g k =
+    onward (pass-head i p d g k) (pass-rest {n = n} j h.paren h.bracket d (λ x. g l head x))
+pass-declared {l = l} {h = head} i (of_declr_with {n = n} p j) h d g k =
+    onward (pass-head i p d g k) (pass-arguments j d (λ es. g l head (declr_with n es))
+    (brackets d no_brackets (λ bs. g l head (declr n bs))))
 
 as_operand : (ts : List Token) (d : ℕ) (k : Stmt → State) → Head 2 ts
     → Passes ts (an_expr_stmt d k) (λ ds. ds) ts
@@ -80,49 +113,146 @@ as_operand (x ∷ ts) d k h = same_head (go (opening x.line x.kind) h)
     go opens_empty h = absurd (omega arith)
     go _ h = refl
 
+-- Where the statement of an expression may begin. Behind a declarator it goes on as it does in a
+-- statement, but for a ':'.
+record Starts (d : ℕ) (k : Stmt → State) (s : State) : Type 0 where
+  declared : ℕ → DeclHead → Declr → State
+  empty : {l a : ℕ} {ts : List Token}
+      → Passes (record { kind = Mark m.Semicolon; line = l; at = a } ∷ ts) s (λ ds. d ∷ ds) ts (k (t.empty l))
+  operand : (ts : List Token) → Head 2 ts
+      → Passes ts s (λ ds. ds) ts (operand d declared (λ e c. chucks c e (simple_end d k)))
+  over : (ts : List Token) (l : ℕ) (h : DeclHead) (x : Declr) → has (a_mark m.Colon) ts ≡ false
+      → Passes ts (declared l h x) (λ ds. ds) ts (declares_or d k l h x)
+
+statement : (d : ℕ) (k : Stmt → State) → Starts d k (an_expr_stmt d k)
+statement d k = record {
+  declared = declares_or d k;
+  empty = past refl;
+  operand = λ ts h. as_operand ts d k h;
+  over = λ ts l h x g. stay;
+}
+
+colon_over : (ts : List Token) (d : ℕ) (f : DeclHead → t.Name → ℕ → State) (h : DeclHead)
+    (x : Declr) (pairs : Option ℕ) (s : State) → has (a_mark m.Colon) ts ≡ false
+    → Passes ts (colon_or d f h x pairs s) (λ ds. ds) ts s
+colon_over ts d f h x None s g = stay
+colon_over ts d f h x (Some q) s g = skip_may ts d _ _ _ g
+
+as_start : (ts : List Token) (d : ℕ) (f : DeclHead → t.Name → ℕ → State) (k : Stmt → State)
+    → Head 2 ts → Passes ts (for_start d f k) (λ ds. ds) ts
+    (operand d (each_or d f k) (λ e c. chucks c e (simple_end d k)))
+as_start [] d f k h = absurd h
+as_start (x ∷ ts) d f k h = same_head (go (opening x.line x.kind) h)
+  where
+    go : (o : Opening) → sort o ≤ 2 → first_start d x.line o f k
+        ≡ first_operand d x.line o (each_or d f k) (λ e c. chucks c e (simple_end d k))
+    go opens_empty h = absurd (omega arith)
+    go _ h = refl
+
+beginning : (d : ℕ) (f : DeclHead → t.Name → ℕ → State) (k : Stmt → State)
+    → Starts d k (for_start d f k)
+beginning d f k = record {
+  declared = each_or d f k;
+  empty = past refl;
+  operand = λ ts h. as_start ts d f k h;
+  over = λ ts l h x g. colon_over ts d f h x (each_pairs h x) (declares_or d k l h x) g;
+}
+
 declrs_comma : {ts rest : List Token} {xs : Declrs} → IsDeclrs ts xs rest
     → (d : ℕ) (ds : List ℕ) → declrs_before_comma d xs ds ≡ declrs_depths d xs (d ∷ ds)
 declrs_comma (of_two x p y) d ds = refl
 declrs_comma (of_another i p x) d ds = refl
 
-pass-declares : {l : ℕ} {h : DeclHead} {xs : Declrs} {ts a rest : List Token} → IsHead ts l h a
-    → IsDeclrs a xs rest → has (a_mark m.LeftBracket) rest ≡ false → (d : ℕ) (k : Stmt → State)
-    → Passes ts (an_expr_stmt d k) (λ ds. head_depths d h (declrs_depths d xs ds)) rest
-    (more_declrs d xs (λ xs. sign d (a_mark m.Semicolon) (k (t.declares l h xs))))
-pass-declares {l = l} {h = head} {ts = ts} i
-    (of_two {a = b} (of_declr {n = n} {bs = bs} p j) then y) h d k =
-    onward (as_operand ts d k (opens-head i))
-    (onward (pass-head i p d (declares_or d k) _)
-    (onward (pass-brackets j d _) (onward (skip_brackets b d _ _ refl)
-    (onward (past refl) (pass-declr y h d (λ z.
-    more_declrs d (and_declr (and_declr no_declrs (declr n bs)) z)
-    (λ xs. sign d (a_mark m.Semicolon) (k (t.declares l head xs)))))))))
-pass-declares {l = l} {h = head} i (of_another {x = x} {xs = zs} xs then y) h d k =
-    reshape (λ ds. ap (head_depths d head) (sym (declrs_comma xs d (declr_depths d x ds))))
-    (onward (pass-declares i xs refl d k) (onward (past refl)
-    (pass-declr y h d (λ z. more_declrs d (and_declr zs z)
-    (λ xs. sign d (a_mark m.Semicolon) (k (t.declares l head xs)))))))
+module _ (d : ℕ) (k : Stmt → State) (s : State) (starts : Starts d k s) where
+  pass-declares : {l : ℕ} {h : DeclHead} {xs : Declrs} {ts a rest : List Token} → IsHead ts l h a
+      → IsDeclrs a xs rest → Bare rest
+      → Passes ts s (λ ds. head_depths d h (declrs_depths d xs ds)) rest
+      (more_declrs d xs (λ xs. sign d (a_mark m.Semicolon) (k (t.declares l h xs))))
+  pass-declares {l = l} {h = head} {ts = ts} i (of_two {x = x} {a = b} p then y) h =
+      onward (starts.operand ts (opens-head i))
+      (onward (pass-declared i p (bare refl refl) d starts.declared _)
+      (onward (starts.over b l head x refl)
+      (onward (past refl) (pass-declr y h d (λ z.
+      more_declrs d (and_declr (and_declr no_declrs x) z)
+      (λ xs. sign d (a_mark m.Semicolon) (k (t.declares l head xs))))))))
+  pass-declares {l = l} {h = head} i (of_another {x = x} {xs = zs} xs then y) h =
+      reshape (λ ds. ap (head_depths d head) (sym (declrs_comma xs d (declr_depths d x ds))))
+      (onward (pass-declares i xs (bare refl refl)) (onward (past refl)
+      (pass-declr y h d (λ z. more_declrs d (and_declr zs z)
+      (λ xs. sign d (a_mark m.Semicolon) (k (t.declares l head xs)))))))
 
-stmt-expr : {ts rest : List Token} {e : Expr} → IsExpr ts e rest → Loose 14 rest
-    → has (a_mark m.Comma) rest ≡ false → (d : ℕ) (k : Stmt → State) → Passes ts
-    (an_expr_stmt d k) (expr_depths d e) rest (chucks (behind d e) e (simple_end d k))
-stmt-expr {ts} {rest} (of_single i) h g d k = onward
-    (as_operand ts d k (opens-expr (of_single i)))
-    (pass-operand i h d (declares_or d k) (λ e c. chucks c e (simple_end d k))
-    (λ l h x. skip_may rest d _ _ _ g))
-stmt-expr (of_chuck {o = o} {e = e} i p q j) h g d k = onward
-    (stmt-expr i (after_operator (f.Chuck o) (omega arith) (omega arith) p q)
-    (no_comma_at (f.Chuck o) (omega arith) p q) d k)
-    (onward (past_chuck p q _ _ (simple_end d k))
-    (pass-operand j h _ _ (λ g c. chucks c (t.chuck (expr_line e) e o g) (simple_end d k))
-    (λ l h x. stay)))
+  stmt-expr : {ts rest : List Token} {e : Expr} → IsExpr ts e rest → Loose 14 rest
+      → has (a_mark m.Comma) rest ≡ false → has (a_mark m.Colon) rest ≡ false
+      → Passes ts s (expr_depths d e) rest (chucks (behind d e) e (simple_end d k))
+  stmt-expr {ts} {rest} (of_single i) h g c = onward
+      (starts.operand ts (opens-expr (of_single i)))
+      (pass-operand i h d starts.declared (λ e c. chucks c e (simple_end d k))
+      (λ l h x. onward (starts.over rest l h x c) (skip_may rest d _ _ _ g)))
+  stmt-expr (of_chuck {o = o} {e = e} i p q j) h g c = onward
+      (stmt-expr i (after_operator (f.Chuck o) (omega arith) (omega arith) p q)
+      (no_comma_at (f.Chuck o) (omega arith) p q) (no_colon_at (f.Chuck o) (omega arith) p q))
+      (onward (past_chuck p q _ _ (simple_end d k))
+      (pass-operand j h _ _ (λ g c. chucks c (t.chuck (expr_line e) e o g) (simple_end d k))
+      (λ l h x. stay)))
+
+  pass-started : {ts rest : List Token} {x : Stmt} → IsExprStmt ts x rest
+      → Passes ts s (stmt_depths d x) rest (k x)
+  pass-started (of_empty begins) = starts.empty
+  pass-started (of_expr i then) =
+      onward (whole (shut refl refl) (λ r. stmt-expr i r refl refl)) (past refl)
+  pass-started (of_declares h xs then) =
+      onward (pass-declares h xs (bare refl refl)) (past refl)
 
 pass-expr_stmt : {ts rest : List Token} {s : Stmt} → IsExprStmt ts s rest
     → (d : ℕ) (k : Stmt → State) → Passes ts (an_expr_stmt d k) (stmt_depths d s) rest (k s)
-pass-expr_stmt (of_empty begins) d k = past refl
-pass-expr_stmt (of_expr i then) d k =
-    onward (whole (shut refl refl) (λ r. stmt-expr i r refl d k)) (past refl)
-pass-expr_stmt (of_declares h xs then) d k = onward (pass-declares h xs refl d k) (past refl)
+pass-expr_stmt i d k = pass-started d k (an_expr_stmt d k) (statement d k) i
+
+-- ---- the head of a `for` over items
+
+-- so many pairs of brackets, none with a size
+abbrev empties : ℕ → Brackets
+empties zero = no_brackets
+empties (suc q) = and_empty (empties q)
+
+as_brackets : {ts rest : List Token} {q : ℕ} → IsPairs ts q rest → IsBrackets ts (empties q) rest
+as_brackets of_no_pairs = of_no_brackets
+as_brackets (of_pair i p r) = of_empty_bracket (as_brackets i) p r
+
+counted : (q : ℕ) → empty_pairs (empties q) ≡ Some q
+counted zero = refl
+counted (suc q) = ap (option_map suc) (counted q)
+
+same_depths : (d q : ℕ) (ds : List ℕ) → brackets_depths d (empties q) ds ≡ pairs_depths d q ds
+same_depths d zero ds = refl
+same_depths d (suc q) ds = same_depths d q (suc d ∷ suc d ∷ ds)
+
+pass-colon : {ts rest : List Token} (d : ℕ) (f : DeclHead → t.Name → ℕ → State) (h : DeclHead)
+    (x : Declr) (pairs : Option ℕ) (s : State) (q : ℕ) → pairs ≡ Some q → Then (Mark m.Colon) ts rest
+    → Passes ts (colon_or d f h x pairs s) (λ ds. d ∷ ds) rest (f h (declr_name x) q)
+pass-colon d f h x None s q is p = absurd (cc)
+pass-colon {ts = ts} {rest = rest} d f h x (Some r) s q is then =
+    subst (λ z. Passes ts (colon_or d f h x (Some r) s) (λ ds. d ∷ ds) rest (f h (declr_name x) z))
+    (same_Some r q is) (past refl)
+
+pass-each : {l q : ℕ} {b : Option Base} {r : Bool} {n : t.Name} {ts a c g i rest : List Token}
+    → IsHeadBase ts l b a → IsAt a r c → Then (Name n) c g → IsPairs g q i
+    → Then (Mark m.Colon) i rest → (d : ℕ) (f : DeclHead → t.Name → ℕ → State) (k : Stmt → State)
+    → let h : DeclHead = record { is_static = false; base = b; is_reference = r } in
+    Passes ts (for_start d f k) (λ ds. head_depths d h (d ∷ pairs_depths d q (d ∷ ds))) rest (f h n q)
+pass-each {l = l} {q = q} {b = b} {r = r} {n = n} {ts = ts} i at p j colon d f k =
+    let h : DeclHead = record { is_static = false; base = b; is_reference = r } in
+    reshape (λ ds. ap (λ rest. head_depths d h (d ∷ rest)) (same_depths d q (d ∷ ds)))
+    (onward (as_start ts d f k (opens-head (of_head i at)))
+    (onward (pass-head (of_head i at) p d (each_or d f k) _)
+    (onward (pass-rest {n = n} (as_brackets j) (no_paren_colon colon) (no_bracket_colon colon) d
+    (λ x. each_or d f k l h x))
+    (pass-colon d f h (declr n (empties q)) (empty_pairs (empties q)) (declares_or d k l h (declr n (empties q))) q (counted q) colon))))
+  where
+    no_paren_colon : {a b : List Token} → Then (Mark m.Colon) a b → has (a_mark m.LeftParen) a ≡ false
+    no_paren_colon then = refl
+
+    no_bracket_colon : {a b : List Token} → Then (Mark m.Colon) a b → has (a_mark m.LeftBracket) a ≡ false
+    no_bracket_colon then = refl
 
 opens-expr_stmt : {ts rest : List Token} {s : Stmt} → IsExprStmt ts s rest → Head 3 ts
 opens-expr_stmt (of_empty begins) = omega arith
@@ -142,6 +272,7 @@ opens-stmt (of_until begins e s) = omega arith
 opens-stmt (of_do_while begins s p e q) = omega arith
 opens-stmt (of_do_until begins s p e q) = omega arith
 opens-stmt (of_for begins p x y e q s) = omega arith
+opens-stmt (of_for_each begins p b at n q c e o s) = omega arith
 opens-stmt (of_repeat begins e s) = omega arith
 opens-stmt (of_break begins p) = omega arith
 opens-stmt (of_continue begins p) = omega arith
@@ -234,8 +365,14 @@ mutual
       (onward (pass-test e d _) (past refl))))
   pass-stmt (of_for {l = l} {x = x} {y = y} begins then i j e p s) d k =
       onward (past refl) (onward (past refl)
-      (onward (pass-expr_stmt i (suc d) _) (onward (pass-expr_stmt j (suc d) _)
+      (onward (pass-started (suc d) _ _ (beginning (suc d) (after_colon d l k) _) i)
+      (onward (pass-expr_stmt j (suc d) _)
       (onward (pass-maybe e p (suc d) (λ e. a_stmt (suc d) (λ s. k (t.for_do l x y e s))))
+      (pass-stmt s (suc d) _)))))
+  pass-stmt (of_for_each {l = l} begins then b at n q c e then s) d k =
+      onward (past refl) (onward (past refl)
+      (onward (pass-each b at n q c (suc d) (after_colon d l k) _)
+      (onward (whole (shut refl refl) (λ r. pass-expr e r (suc d) _)) (onward (past refl)
       (pass-stmt s (suc d) _)))))
   pass-stmt (of_repeat begins e s) d k =
       onward (past refl) (onward (pass-test e d _) (pass-stmt s (suc d) _))
@@ -296,6 +433,27 @@ no_static (of_base (of_word {k = k} {l = l} begins h) n) = go k h
     go _ h = refl
 no_static (of_base (of_class begins) n) = refl
 
+no_at : {ts rest : List Token} {k : TypeName} → IsType ts k rest → has (a_mark m.At) ts ≡ false
+no_at (of_base (of_word {k = k} {l = l} begins h) n) = go k h
+  where
+    go : {b : Base} (k : TokenKind) → opening l k ≡ based b → is_sign k (a_mark m.At) ≡ false
+    go (Word x) h = refl
+    go (Mark m.At) h = cc
+    go _ h = refl
+no_at (of_base (of_class begins) n) = refl
+
+pass-with_params : {ps : Params} {ss : Stmts} {ts g h i rest : List Token}
+    → Then (Mark m.LeftParen) ts g → IsParams g ps h → Then (Mark m.RightParen) h i
+    → IsBlock i ss rest → (k : Params → Stmts → State)
+    → Passes ts (with_params k) (λ ds.
+    1 ∷ params_depths 1 ps (1 ∷ 0 ∷ stmts_depths 1 ss (0 ∷ ds))) rest (k ps ss)
+pass-with_params then of_no_params then y k =
+    onward (past refl) (onward (past refl) (pass-block y (k no_params)))
+pass-with_params {g = g} then (of_params z) then y k = onward (past refl)
+    (onward (skip_may g 1 _ _ _ (no_paren g (opens-param z)))
+    (onward (pass-params z refl (λ ps. sign 1 (a_mark m.RightParen) (a_block (k ps))))
+    (onward (past refl) (pass-block y _))))
+
 pass-signature : {b : TypeName} {n : t.Name} {ps : Params} {ss : Stmts}
     {ts a c g h i rest : List Token} → IsType ts b a → Then (Name n) a c
     → Then (Mark m.LeftParen) c g → IsParams g ps h → Then (Mark m.RightParen) h i
@@ -303,25 +461,22 @@ pass-signature : {b : TypeName} {n : t.Name} {ps : Params} {ss : Stmts}
     → Passes ts (signature l s k) (λ ds. type_depths 0 b
     (0 ∷ 1 ∷ params_depths 1 ps (1 ∷ 0 ∷ stmts_depths 1 ss (0 ∷ ds)))) rest
     (k (t.fun l s b n ps ss))
-pass-signature x then then of_no_params then y l s k = onward
-    (pass-type x refl 0 (λ b. a_name 0 (λ n. after_name l s b n k)))
-    (onward (past refl) (onward (past refl) (onward (past refl) (pass-block y _))))
-pass-signature {b = b} {n = n} {g = g} x then then (of_params z) then y l s k =
-    onward (pass-type x refl 0 (λ b. a_name 0 (λ n. after_name l s b n k)))
-    (onward (past refl) (onward (past refl)
-    (onward (skip_may g 1 _ _ _ (no_paren g (opens-param z)))
-    (onward (pass-params z refl (λ ps. sign 1 (a_mark m.RightParen)
-    (a_block (λ ss. k (t.fun l s b n ps ss))))) (onward (past refl) (pass-block y _))))))
+pass-signature {b = b} {n = n} x then p q r y l s k = onward
+    (pass-type x refl 0 (λ b. a_name 0 (λ n. with_params (λ ps ss. k (t.fun l s b n ps ss)))))
+    (onward (past refl) (pass-with_params p q r y (λ ps ss. k (t.fun l s b n ps ss))))
 
 -- where a function may come
 pass-fun : {ts rest : List Token} {x : Fun} → IsFun ts x rest → (s : State) (k : Fun → State)
     → ((l a : ℕ) → step s (record { kind = Word w.Fun; line = l; at = a })
     ≡ Some (0, after_fun l k)) → Passes ts s (fun_depths x) rest (k x)
 pass-fun (of_fun {b = b} (begins {l = l} {a = a}) of_not_static i p q ps r j) s k h = onward
-    (past (h l a))
-    (onward (skip_may b 0 _ _ _ (no_static i)) (pass-signature i p q ps r j l false k))
+    (past (h l a)) (onward (skip_may b 0 _ _ _ (no_at i))
+    (onward (skip_may b 0 _ _ _ (no_static i)) (pass-signature i p q ps r j l false k)))
 pass-fun (of_fun (begins {l = l} {a = a}) (of_static_word then) i p q ps r j) s k h =
     onward (past (h l a)) (onward (past refl) (pass-signature i p q ps r j l true k))
+pass-fun (of_constructor (begins {l = l} {a = a}) then then p q r j) s k h =
+    onward (past (h l a)) (onward (past refl) (onward (past refl)
+    (pass-with_params p q r j (λ ps ss. k (t.constructor l ps ss)))))
 
 pass-member : {ts rest : List Token} {x : Member} → IsMember ts x rest
     → (xs : Members) (k : Members → State)

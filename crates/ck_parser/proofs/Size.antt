@@ -22,6 +22,7 @@ use Rattle.ck_syntax.specs.Size.{before_comma as comma_size, option_size, stmt_s
 use Rattle.ck_syntax.specs.Size.{param_size, params_size, params_before_comma as params_comma_size}
 use Rattle.ck_syntax.specs.Size.{fun_size, member_size, members_size, parent_size, class_size}
 use Rattle.ck_syntax.specs.Size.{item_size, items_size, file_size}
+use Rattle.ck_syntax.specs.Tree.{new_with, declr_with, for_each, constructor}
 use Rattle.ck_syntax.specs.Tree.{Name, Expr, int, float, text, name, constant, time_unit, paren}
 use Rattle.ck_syntax.specs.Tree.{array, call, index, member, postfix, dur, prefix, new, spork, cast}
 use Rattle.ck_syntax.specs.Tree.{binary, choice, declare, chuck, Exprs, no_exprs, and_expr}
@@ -82,6 +83,8 @@ mutual
       let second = expr-length (suc (behind d e)) u ds in omega arith
   expr-length d (prefix l o e) ds = let first = expr-length (suc d) e ds in omega arith
   expr-length d (new l b es) ds = let first = sizes-length (suc d) es ds in omega arith
+  expr-length d (new_with l b es) ds =
+      let first = exprs-length (suc (suc d)) es (suc (suc d) ∷ ds) in omega arith
   expr-length d (spork l e) ds = let first = expr-length (suc d) e ds in omega arith
   expr-length d (cast l e k) ds = let first = expr-length d e
       (suc (behind d e) ∷ type_depths (suc (behind d e)) k ds) in
@@ -132,6 +135,8 @@ mutual
   declr-length : (d : ℕ) (x : Declr) (ds : List ℕ)
       → length (declr_depths d x ds) ≡ declr_size x + length ds
   declr-length d (declr n bs) ds = let first = brackets-length d bs ds in omega arith
+  declr-length d (declr_with n es) ds =
+      let first = exprs-length (suc d) es (suc d ∷ ds) in omega arith
 
 mutual
   declrs-length : (d : ℕ) (x : Declrs) (ds : List ℕ)
@@ -182,6 +187,12 @@ mutual
       let second = stmt-length (suc d) y (option_depths (suc d) e
       (suc d ∷ stmt_depths (suc d) s ds)) in let third = option-length (suc d) e
       (suc d ∷ stmt_depths (suc d) s ds) in let fourth = stmt-length (suc d) s ds in omega arith
+  stmt-length d (for_each l h n q e s) ds = let first = head-length (suc d) h
+      (suc d ∷ pairs_depths (suc d) q (suc d ∷ expr_depths (suc d) e
+      (suc d ∷ stmt_depths (suc d) s ds))) in let second = pairs-length (suc d) q
+      (suc d ∷ expr_depths (suc d) e (suc d ∷ stmt_depths (suc d) s ds)) in
+      let third = expr-length (suc d) e (suc d ∷ stmt_depths (suc d) s ds) in
+      let fourth = stmt-length (suc d) s ds in omega arith
   stmt-length d (repeat l e s) ds = let first = test-length d e (stmt_depths (suc d) s ds) in
       let second = stmt-length (suc d) s ds in omega arith
   stmt-length d (break l) ds = omega arith
@@ -219,6 +230,9 @@ fun-length (fun l s k n ps ss) ds = let first = one_if-length s 0
     (1 ∷ 0 ∷ stmts_depths 1 ss (0 ∷ ds))) in
     let third = params-length 1 ps (1 ∷ 0 ∷ stmts_depths 1 ss (0 ∷ ds)) in
     let fourth = stmts-length 1 ss (0 ∷ ds) in omega arith
+fun-length (constructor l ps ss) ds =
+    let first = params-length 1 ps (1 ∷ 0 ∷ stmts_depths 1 ss (0 ∷ ds)) in
+    let second = stmts-length 1 ss (0 ∷ ds) in omega arith
 
 member-length : (x : Member) (ds : List ℕ) → length (member_depths x ds) ≡ member_size x + length ds
 member-length (fun_member x) ds = let first = fun-length x ds in omega arith

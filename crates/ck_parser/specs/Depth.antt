@@ -2,13 +2,17 @@
 -- those that follow.
 use Rattle.std.specs.Prelude.{ℕ, zero, suc, List, [], ◌∷◌, Bool, true, false, Option, Some, None}
 use Rattle.ck_syntax.specs.Tree.{Name, Expr, int, float, text, name, constant, time_unit, paren}
-use Rattle.ck_syntax.specs.Tree.{array, call, index, member, postfix, dur, prefix, new, spork, cast}
+use Rattle.ck_syntax.specs.Tree.{array, call, index, member, postfix, dur, prefix, new, new_with}
+use Rattle.ck_syntax.specs.Tree.{spork, cast}
 use Rattle.ck_syntax.specs.Tree.{binary, choice, declare, chuck, Exprs, no_exprs, and_expr}
-use Rattle.ck_syntax.specs.Tree.{Brackets, no_brackets, and_empty, and_size, Declr, declr, Declrs}
+use Rattle.ck_syntax.specs.Tree.{Brackets, no_brackets, and_empty, and_size, Declr, declr}
+use Rattle.ck_syntax.specs.Tree.{declr_with, Declrs}
 use Rattle.ck_syntax.specs.Tree.{no_declrs, and_declr, Stmt, block, empty, simple, declares, print}
 use Rattle.ck_syntax.specs.Tree.{if_then, if_else, while_do, until_do, do_while, do_until, for_do}
+use Rattle.ck_syntax.specs.Tree.{for_each}
 use Rattle.ck_syntax.specs.Tree.{repeat, break, continue, return, Stmts, no_stmts, and_stmt, Params}
-use Rattle.ck_syntax.specs.Tree.{no_params, and_param, Fun, fun, Members, no_members, and_member}
+use Rattle.ck_syntax.specs.Tree.{no_params, and_param, Fun, fun, constructor, Members, no_members}
+use Rattle.ck_syntax.specs.Tree.{and_member}
 use Rattle.ck_syntax.specs.Tree.{Member, fun_member, stmt_member, Class, class, Item, class_item}
 use Rattle.ck_syntax.specs.Tree.{fun_item, stmt_item, File, no_items, and_item}
 use Rattle.ck_syntax.specs.declared.declaration.DeclHead.{DeclHead}
@@ -49,6 +53,7 @@ behind d (postfix l e o) = suc (behind d e)
 behind d (dur l e u) = behind (suc (behind d e)) u
 behind d (prefix l o e) = behind (suc d) e
 behind d (new l b es) = suc d
+behind d (new_with l b es) = suc d
 behind d (spork l e) = behind (suc d) e
 behind d (cast l e k) = suc (behind d e)
 behind d (binary l e o g) = behind (suc (behind d e)) g
@@ -77,6 +82,8 @@ abbrev mutual
       expr_depths d e (suc (behind d e) ∷ expr_depths (suc (behind d e)) u ds)
   expr_depths d (prefix l o e) ds = suc d ∷ expr_depths (suc d) e ds
   expr_depths d (new l b es) ds = suc d ∷ suc d ∷ sizes_depths (suc d) es ds
+  expr_depths d (new_with l b es) ds =
+      suc d ∷ suc d ∷ suc (suc d) ∷ exprs_depths (suc (suc d)) es (suc (suc d) ∷ ds)
   expr_depths d (spork l e) ds = suc d ∷ suc d ∷ expr_depths (suc d) e ds
   expr_depths d (cast l e k) ds =
       expr_depths d e (suc (behind d e) ∷ type_depths (suc (behind d e)) k ds)
@@ -111,6 +118,7 @@ abbrev mutual
 
   pub declr_depths : ℕ → Declr → List ℕ → List ℕ
   declr_depths d (declr n bs) ds = d ∷ brackets_depths d bs ds
+  declr_depths d (declr_with n es) ds = d ∷ suc d ∷ exprs_depths (suc d) es (suc d ∷ ds)
 
 abbrev mutual
   pub declrs_depths : ℕ → Declrs → List ℕ → List ℕ
@@ -146,6 +154,8 @@ abbrev mutual
   stmt_depths d (do_until l s e) ds = d ∷ stmt_depths (suc d) s (d ∷ test_depths d e (d ∷ ds))
   stmt_depths d (for_do l x y e s) ds = d ∷ suc d ∷ stmt_depths (suc d) x
       (stmt_depths (suc d) y (option_depths (suc d) e (suc d ∷ stmt_depths (suc d) s ds)))
+  stmt_depths d (for_each l h n q e s) ds = d ∷ suc d ∷ head_depths (suc d) h (suc d ∷
+      pairs_depths (suc d) q (suc d ∷ expr_depths (suc d) e (suc d ∷ stmt_depths (suc d) s ds)))
   stmt_depths d (repeat l e s) ds = d ∷ test_depths d e (stmt_depths (suc d) s ds)
   stmt_depths d (break l) ds = d ∷ d ∷ ds
   stmt_depths d (continue l) ds = d ∷ d ∷ ds
@@ -171,6 +181,8 @@ abbrev mutual
 abbrev pub fun_depths : Fun → List ℕ → List ℕ
 fun_depths (fun l s k n ps ss) ds = 0 ∷ one_if s 0
     (type_depths 0 k (0 ∷ 1 ∷ params_depths 1 ps (1 ∷ 0 ∷ stmts_depths 1 ss (0 ∷ ds))))
+fun_depths (constructor l ps ss) ds =
+    0 ∷ 0 ∷ 0 ∷ 1 ∷ params_depths 1 ps (1 ∷ 0 ∷ stmts_depths 1 ss (0 ∷ ds))
 
 abbrev pub member_depths : Member → List ℕ → List ℕ
 member_depths (fun_member x) ds = fun_depths x ds

@@ -1,5 +1,5 @@
 -- Short files, each token on line 1.
-use Rattle.std.specs.Prelude.{List, [], ◌∷◌, false, pos}
+use Rattle.std.specs.Prelude.{List, [], ◌∷◌, Some, false, pos}
 use Rattle.ck_lexer.specs.declared.mark.Mark.TheVariants as m
 use Rattle.ck_lexer.specs.declared.token.Token.{Token}
 use Rattle.ck_lexer.specs.declared.token.TokenKind.{TokenKind}
@@ -55,10 +55,10 @@ unfinished = one (Int (pos 1)) ∷ one (Mark m.Plus) ∷ one (Mark m.Semicolon) 
 abbrev pub nested_if_tree : t.File
 nested_if_tree = t.and_item (t.and_item (t.and_item t.no_items
     (t.stmt_item (t.simple 1 (t.chuck 1 (t.int 1 (pos 1)) chuck.Chuck
-    (t.declare 1 (record { is_static = false; base = base.Int; is_reference = false })
+    (t.declare 1 (record { is_static = false; base = Some base.Int; is_reference = false })
     (t.declr (97 ∷ []) t.no_brackets)))))) (t.stmt_item
     (t.simple 1 (t.chuck 1 (t.int 1 (pos 0)) chuck.Chuck
-    (t.declare 1 (record { is_static = false; base = base.Int; is_reference = false })
+    (t.declare 1 (record { is_static = false; base = Some base.Int; is_reference = false })
     (t.declr (98 ∷ []) t.no_brackets)))))) (t.stmt_item
     (t.if_then 1 (t.name 1 (97 ∷ [])) (t.if_else 1 (t.name 1 (98 ∷ []))
     (t.print 1 (t.and_expr t.no_exprs (t.int 1 (pos 1))))

@@ -9,7 +9,7 @@ use Rattle.ck_lexer.specs.declared.token.TokenKind.TheVariants.{Word, Mark, Name
 use Rattle.ck_lexer.specs.declared.word.Word.TheVariants as w
 use Rattle.parse_exprs.specs.declared.follow.Follow.TheVariants as f
 use Rattle.parse_exprs.specs.Tokens.{Begins, Then, atom, prefixed, based, opening, follow, level}
-use Rattle.parse_exprs.specs.Tokens.{a_word, has}
+use Rattle.parse_exprs.specs.Tokens.{a_word, has, construct}
 use Rattle.ck_syntax.specs.Tree as t
 use Rattle.ck_syntax.specs.Tree.{Expr, Exprs, Brackets, Declr, Declrs, Stmt, Stmts, Fun, Params}
 use Rattle.ck_syntax.specs.Tree.{Member, Members, Class, Item, File, expr_line, no_exprs, and_expr}
@@ -53,13 +53,22 @@ pub data IsAt : List Token → Bool → List Token → Type 0 where
   of_no_at : {ts : List Token} → IsAt ts false ts
   of_at : {ts rest : List Token} → Then (Mark m.At) ts rest → IsAt ts true rest
 
+-- Base | 'auto', with the line where it stands
+pub data IsHeadBase : List Token → ℕ → Option Base → List Token → Type 0 where
+  of_typed : {l : ℕ} {b : Base} {ts rest : List Token}
+      → IsBase ts l b rest
+      → IsHeadBase ts l (Some b) rest
+  of_auto : {l : ℕ} {ts rest : List Token}
+      → Begins (Word w.Auto) l ts rest
+      → IsHeadBase ts l None rest
+
 -- DeclHead, with the line where it stands
 pub data IsHead : List Token → ℕ → DeclHead → List Token → Type 0 where
-  of_head : {l : ℕ} {b : Base} {r : Bool} {ts a rest : List Token}
-      → IsBase ts l b a → IsAt a r rest
+  of_head : {l : ℕ} {b : Option Base} {r : Bool} {ts a rest : List Token}
+      → IsHeadBase ts l b a → IsAt a r rest
       → IsHead ts l (record { is_static = false; base = b; is_reference = r }) rest
-  of_static : {l k : ℕ} {b : Base} {r : Bool} {ts a c rest : List Token}
-      → Begins (Word w.Static) l ts a → IsBase a k b c → IsAt c r rest
+  of_static : {l k : ℕ} {b : Option Base} {r : Bool} {ts a c rest : List Token}
+      → Begins (Word w.Static) l ts a → IsHeadBase a k b c → IsAt c r rest
       → IsHead ts l (record { is_static = true; base = b; is_reference = r }) rest
 
 mutual
@@ -115,6 +124,15 @@ mutual
         → IsDur ts e a → Then (Mark m.ColonColon) a b → IsPostfix b u rest
         → IsDur ts (t.dur (expr_line e) e u) rest
 
+  -- '(' (Expr (',' Expr)*)? ')'
+  pub data IsArguments : List Token → Exprs → List Token → Type 0 where
+    of_none_given : {ts a rest : List Token}
+        → Then (Mark m.LeftParen) ts a → Then (Mark m.RightParen) a rest
+        → IsArguments ts no_exprs rest
+    of_arguments : {es : Exprs} {ts a b rest : List Token}
+        → Then (Mark m.LeftParen) ts a → IsExprs a es b → Then (Mark m.RightParen) b rest
+        → IsArguments ts es rest
+
   -- ('[' Expr ']')*
   pub data IsSizes : List Token → Exprs → List Token → Type 0 where
     of_no_sizes : {ts : List Token} → IsSizes ts no_exprs ts
@@ -132,6 +150,9 @@ mutual
     of_new : {l k : ℕ} {b : Base} {es : Exprs} {ts a c rest : List Token}
         → Begins (Word w.New) l ts a → IsBase a k b c → IsSizes c es rest
         → IsUnary ts (t.new l b es) rest
+    of_new_with : {l k : ℕ} {b : Base} {es : Exprs} {ts a c rest : List Token}
+        → Begins (Word w.New) l ts a → IsBase a k b c → IsArguments c es rest
+        → IsUnary ts (t.new_with l b es) rest
     of_spork : {l : ℕ} {e : Expr} {ts a b rest : List Token}
         → Begins (Word w.Spork) l ts a → Then (Mark m.Tilde) a b → IsPostfix b e rest
         → IsUnary ts (t.spork l e) rest
@@ -178,6 +199,9 @@ mutual
     of_declr : {n : t.Name} {bs : Brackets} {ts a rest : List Token}
         → Then (Name n) ts a → IsBrackets a bs rest
         → IsDeclr ts (t.declr n bs) rest
+    of_declr_with : {n : t.Name} {es : Exprs} {ts a rest : List Token}
+        → Then (Name n) ts a → IsArguments a es rest
+        → IsDeclr ts (t.declr_with n es) rest
 
   -- Operand
   pub data IsOperand : List Token → Expr → List Token → Type 0 where
@@ -262,6 +286,13 @@ mutual
         → Begins (Word w.For) l ts a → Then (Mark m.LeftParen) a b → IsExprStmt b x c
         → IsExprStmt c y d → IsMaybe d e g → Then (Mark m.RightParen) g h → IsStmt h s rest
         → IsStmt ts (t.for_do l x y e s) rest
+    of_for_each : {l k q : ℕ} {b : Option Base} {r : Bool} {n : t.Name} {e : Expr} {s : Stmt}
+        {ts a c d f g h i j o rest : List Token}
+        → Begins (Word w.For) l ts a → Then (Mark m.LeftParen) a c → IsHeadBase c k b d
+        → IsAt d r f → Then (Name n) f g → IsPairs g q h → Then (Mark m.Colon) h i → IsExpr i e j
+        → Then (Mark m.RightParen) j o → IsStmt o s rest
+        → IsStmt ts
+        (t.for_each l (record { is_static = false; base = b; is_reference = r }) n q e s) rest
     of_repeat : {l : ℕ} {e : Expr} {s : Stmt} {ts a b rest : List Token}
         → Begins (Word w.Repeat) l ts a → IsTest a e b → IsStmt b s rest
         → IsStmt ts (t.repeat l e s) rest
@@ -321,6 +352,11 @@ pub data IsFun : List Token → Fun → List Token → Type 0 where
       → Then (Mark m.LeftParen) d g → IsParams g ps h → Then (Mark m.RightParen) h i
       → IsBlock i ss rest
       → IsFun ts (t.fun l s k n ps ss) rest
+  of_constructor : {l : ℕ} {ps : Params} {ss : Stmts} {ts a b c d g h rest : List Token}
+      → Begins (Word w.Fun) l ts a → Then (Mark m.At) a b → Then (Name construct) b c
+      → Then (Mark m.LeftParen) c d → IsParams d ps g → Then (Mark m.RightParen) g h
+      → IsBlock h ss rest
+      → IsFun ts (t.constructor l ps ss) rest
 
 -- FunDef | Stmt
 pub data IsMember : List Token → Member → List Token → Type 0 where

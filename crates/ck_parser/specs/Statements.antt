@@ -1,25 +1,32 @@
 -- What is to come in a statement, behind its first word or mark.
-use Rattle.std.specs.Prelude.{◌≡◌, ℕ, suc, List, [], ◌∷◌, Bool, true, false, Option, Result, IfOk}
+use Rattle.std.specs.Prelude.{◌≡◌, ℕ, suc, List, [], ◌∷◌, Bool, true, false, Option, Some, None}
+use Rattle.std.specs.Prelude.{MatchOption, Result, IfOk}
 use Rattle.std.specs.Global.{Box}
 use Rattle.ck_lexer.specs.declared.mark.Mark.TheVariants as m
 use Rattle.ck_lexer.specs.declared.token.Token.{Token}
+use Rattle.ck_lexer.specs.declared.token.TokenKind.TheVariants.{Mark}
 use Rattle.ck_lexer.specs.declared.word.Word.TheVariants as w
+use Rattle.ck_parser.specs.declared.stmt_node.ForStart.{ForStart}
+use Rattle.ck_parser.specs.declared.stmt_node.ForStart.TheVariants as start
 use Rattle.ck_parser.specs.declared.stmt_node.LoopWord.{LoopWord}
 use Rattle.ck_parser.specs.declared.stmt_node.LoopWord.TheVariants as loop_word
 use Rattle.parse_exprs.specs.declared.fault.Fault.{Fault}
 use Rattle.parse_exprs.specs.Machine.{State, sign, may, a_stmt, an_expr_stmt, stmts, chucks}
 use Rattle.parse_exprs.specs.Machine.{more_declrs, a_declr, some_exprs, a_test, declares_or}
-use Rattle.parse_exprs.specs.Machine.{simple_end}
+use Rattle.parse_exprs.specs.Machine.{simple_end, for_start, after_colon}
 use Rattle.parse_exprs.specs.Operands.{Behind, optional, tree_of}
 use Rattle.parse_exprs.specs.Reads.{Slice, Reads, ReadsPart}
 use Rattle.parse_exprs.specs.Tokens.{Opening, opens_block, opens_if, opens_while, opens_until}
 use Rattle.parse_exprs.specs.Tokens.{opens_do, opens_for, opens_repeat, opens_fun, opens_class}
-use Rattle.parse_exprs.specs.Tokens.{opens_public, opens_nothing, opening, a_word, a_mark}
+use Rattle.parse_exprs.specs.Tokens.{opens_public, opens_nothing, opening, a_word, a_mark, has}
+use Rattle.parse_exprs.specs.Tokens.{Then}
 use Rattle.ck_syntax.specs.Tree as t
-use Rattle.ck_syntax.specs.Tree.{Expr, Exprs, Declr, Declrs, Stmt, Stmts, no_stmts, no_declrs}
+use Rattle.ck_syntax.specs.Tree.{Name, Expr, Exprs, Declr, Declrs, Stmt, Stmts, no_stmts, no_declrs}
 use Rattle.ck_syntax.specs.Tree.{and_declr}
 use Rattle.ck_syntax.specs.View.{view_option, view_stmt}
+use Rattle.ck_syntax.specs.declared.declaration.DeclHead.{DeclHead}
 use Rattle.ck_syntax.specs.declared.expr.Expr.{Expr as ExprNode}
+use Rattle.ck_syntax.specs.declared.stmt.LoopItem.{LoopItem}
 use Rattle.ck_syntax.specs.declared.stmt.Stmt.{Stmt as StmtNode}
 
 -- ---- which tokens begin a statement
@@ -103,14 +110,45 @@ do_end d l s k = may d (a_word w.While)
 abbrev pub after_do : ℕ → ℕ → (Stmt → State) → State
 after_do d l k = a_stmt (suc d) (λ s. do_end d l s k)
 
--- '(' ExprStmt ExprStmt Expr? ')'
-abbrev pub for_head : ℕ → (Stmt → Stmt → Option Expr → State) → State
-for_head d k = sign (suc d) (a_mark m.LeftParen)
-    (an_expr_stmt (suc d) (λ x. an_expr_stmt (suc d)
-    (λ y. optional (suc d) (a_mark m.RightParen) (k x y))))
+-- what is to come behind each of the two beginnings of a `for`'s parentheses
+pub record BehindStart : Type 0 where
+  pub item : DeclHead → Name → ℕ → State
+  pub stmt : Stmt → State
+
+abbrev pub a_for_start : ℕ → BehindStart → State
+a_for_start d h = for_start d h.item h.stmt
+
+abbrev pub start_next : ForStart → BehindStart → State
+start_next (start.Stmt s) h = h.stmt (view_stmt s.value)
+start_next (start.Item x) h = h.item x.head x.name x.brackets
+
+-- ExprStmt Expr? ')'
+abbrev pub a_for_rest : ℕ → (Stmt → Option Expr → State) → State
+a_for_rest d k = an_expr_stmt d (λ y. optional d (a_mark m.RightParen) (k y))
+
+-- behind a first part of three
+abbrev pub after_start : ℕ → ℕ → (Stmt → State) → Stmt → State
+after_start d l k x =
+    a_for_rest (suc d) (λ y e. a_stmt (suc d) (λ s. k (t.for_do l x y e s)))
+
+abbrev pub behind_start : ℕ → ℕ → (Stmt → State) → BehindStart
+behind_start d l k = record { item = after_colon d l k; stmt = after_start d l k }
 
 abbrev pub after_for : ℕ → ℕ → (Stmt → State) → State
-after_for d l k = for_head d (λ x y e. a_stmt (suc d) (λ s. k (t.for_do l x y e s)))
+after_for d l k = sign (suc d) (a_mark m.LeftParen) (a_for_start (suc d) (behind_start d l k))
+
+-- whether a ':' comes next where a declarator of so many pairs of brackets may be an item's
+abbrev pub has_colon : Option ℕ → List Token → Bool
+has_colon None ts = false
+has_colon (Some q) ts = has (a_mark m.Colon) ts
+
+-- the pairs, and what stands behind the ':'; or none comes that may
+abbrev pub FindsColon : Option ℕ → List Token → Option (ℕ × Slice) → Type 0
+FindsColon o ts r = MatchOption r (has_colon o ts ≡ false)
+    (λ x. (o ≡ Some x.0) × Then (Mark m.Colon) ts x.1.now)
+
+abbrev pub each_of : ℕ → LoopItem → Expr → Stmt → Stmt
+each_of l x e s = t.for_each l x.head x.name x.brackets e s
 
 abbrev pub after_block : ℕ → ℕ → (Stmt → State) → State
 after_block d l k = stmts (suc d) no_stmts (λ ss. sign d (a_mark m.RightBrace) (k (t.block l ss)))
@@ -137,10 +175,15 @@ ReadsTested d ts r = Reads
     (λ x k. k (tree_of x.0) (stmt_of x.1))
     (λ x. x.2.now) ts r
 
--- '(' ExprStmt ExprStmt Expr? ')'
-abbrev pub ReadsForHead : ℕ → List Token
-    → Result (Box StmtNode × Box StmtNode × Option (Box ExprNode) × Slice) Fault → Type 0
-ReadsForHead d ts r = Reads
-    (λ (k : Stmt → Stmt → Option Expr → State). for_head d k)
-    (λ x k. k (stmt_of x.0) (stmt_of x.1) (view_option x.2))
-    (λ x. x.3.now) ts r
+-- what begins the parentheses of a `for`
+abbrev pub ReadsStart : (BehindStart → State) → List Token → Result (ForStart × Slice) Fault
+    → Type 0
+ReadsStart S ts r = Reads S (λ x h. start_next x.0 h) (λ x. x.1.now) ts r
+
+-- ExprStmt Expr? ')'
+abbrev pub ReadsForRest : ℕ → List Token
+    → Result (Box StmtNode × Option (Box ExprNode) × Slice) Fault → Type 0
+ReadsForRest d ts r = Reads
+    (λ (k : Stmt → Option Expr → State). a_for_rest d k)
+    (λ x k. k (stmt_of x.0) (view_option x.1))
+    (λ x. x.2.now) ts r

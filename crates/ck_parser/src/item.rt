@@ -3,7 +3,7 @@ ghost use Rattle.std.specs.Prelude.{◌≡◌, ◌≤◌, ◌<◌, length, true,
 ghost use Rattle.ck_lexer.specs.declared.mark.Mark.TheVariants.{RightBrace as right_brace};
 ghost use Rattle.ck_parser.specs.Items.{ReadsMember, ReadsItem, ReadsEnd, ReadsFile};
 ghost use Rattle.ck_parser.specs.Items.{some_params, all_params, a_parent, a_body, at_the_end};
-ghost use Rattle.parse_exprs.specs.Machine.{a_block, a_param, after_class, after_fun};
+ghost use Rattle.parse_exprs.specs.Machine.{a_block, a_param, after_at, after_class, after_fun};
 ghost use Rattle.parse_exprs.specs.Machine.{signature as a_signature};
 ghost use Rattle.parse_exprs.specs.Reads.{ReadsPart};
 ghost use Rattle.parse_exprs.specs.Tokens.{a_mark, has};
@@ -13,10 +13,10 @@ ghost use Rattle.ck_syntax.specs.View.{members_of, params_of, stmts_of, view_cla
 use crate::stmt::{stmt, stmts};
 use ck_base::{List, Text};
 use ck_lexer::{Mark, Token, TokenKind, Word};
-use ck_syntax::{ClassDef, File, FunDef, Item, Member, Param, Stmt};
+use ck_syntax::{ClassDef, File, FunDef, FunHead, Item, Member, Param, Stmt};
 use parse_exprs::heap::{boxed, push, push_boxed};
 use parse_exprs::tokens::{
-    eat_mark, eat_word, expect_mark, expect_name, expect_word, first, opening_of,
+    eat_mark, eat_word, expect_construct, expect_mark, expect_name, expect_word, first, opening_of,
 };
 use parse_exprs::type_name::{bracket_pairs, type_name};
 use parse_exprs::{Fault, Opening, Parsed};
@@ -93,11 +93,31 @@ fn signature<'a>(
     let (name, open) = expect_name(alloc, behind)?;
     let (params, after) = params(alloc, open)?;
     let (body, rest) = block(alloc, after)?;
-    let fun = FunDef {
-        line,
+    let head = FunHead::Named {
         is_static,
         result: kind,
         name,
+    };
+    let fun = FunDef {
+        line,
+        head,
+        params,
+        body,
+    };
+    Ok((fun, rest))
+}
+
+/// A constructor, behind its `@`.
+fn constructor<'a>(alloc: Global, line: u32, tokens: &'a [Token]) -> Parsed<'a, FunDef>
+    ensures reads { ReadsPart (after_at line) view_fun tokens.now result }
+    ensures fewer { IfOk result (λ x. length x.1.now < length tokens.now) }
+{
+    let open = expect_construct(tokens)?;
+    let (params, after) = params(alloc, open)?;
+    let (body, rest) = block(alloc, after)?;
+    let fun = FunDef {
+        line,
+        head: FunHead::Construct,
         params,
         body,
     };
@@ -109,6 +129,9 @@ fn fun_def<'a>(alloc: Global, line: u32, tokens: &'a [Token]) -> Parsed<'a, FunD
     ensures reads { ReadsPart (after_fun line) view_fun tokens.now result }
     ensures fewer { IfOk result (λ x. length x.1.now < length tokens.now) }
 {
+    if let Some(behind) = eat_mark(tokens, Mark::At) {
+        return constructor(alloc, line, behind);
+    }
     match eat_word(tokens, Word::Static) {
         Some(behind) => signature(alloc, line, true, behind),
         None => signature(alloc, line, false, tokens),

@@ -1,22 +1,25 @@
 //! Statements with no other statement inside, and the heads of those that have one.
-ghost use Rattle.std.specs.Prelude.{◌≡◌, ◌≤◌, ◌<◌, true, length, IfOk};
+ghost use Rattle.std.specs.Prelude.{◌≡◌, ◌≤◌, ◌<◌, true, length, IfOk, IfSome};
 ghost use Rattle.ck_base.specs.declared.limits.TheConstants.{MAX_NESTING};
-ghost use Rattle.ck_parser.specs.Statements.{ReadsStmt, ReadsForHead, stmt_of, after_print};
+ghost use Rattle.ck_parser.specs.Statements.{FindsColon, ReadsStmt, ReadsStart, ReadsForRest};
+ghost use Rattle.ck_parser.specs.Statements.{stmt_of};
+ghost use Rattle.ck_parser.specs.Statements.{a_for_start, after_print};
 ghost use Rattle.ck_parser.specs.Statements.{after_return, other_declrs};
 ghost use Rattle.ck_parser.specs.Statements.{do_end as a_do_end, has_plain, has_stmt};
 ghost use Rattle.ck_parser.specs.Statements.{next_line as line_at};
 ghost use Rattle.parse_exprs.specs.Machine.{a_stmt, an_expr_stmt, a_test, chucks, declares_or};
+ghost use Rattle.parse_exprs.specs.Machine.{each_or, each_pairs, empty_pairs as some_pairs};
 ghost use Rattle.parse_exprs.specs.Machine.{simple_end};
 ghost use Rattle.parse_exprs.specs.Operands.{tree_of};
 ghost use Rattle.parse_exprs.specs.Parts.{ReadsExpr};
 ghost use Rattle.parse_exprs.specs.Reads.{ReadsPart};
-ghost use Rattle.ck_syntax.specs.Tree.{no_declrs};
-ghost use Rattle.ck_syntax.specs.View.{view_declr, declrs_of};
+ghost use Rattle.ck_syntax.specs.Tree.{no_brackets, no_declrs};
+ghost use Rattle.ck_syntax.specs.View.{brackets_of, view_declr, declrs_of};
 
-use crate::stmt_node::{do_until, do_while, node, return_value, simple};
+use crate::stmt_node::{ForStart, do_until, do_while, node, return_value, simple};
 use ck_base::List;
 use ck_lexer::{Mark, Token, Word};
-use ck_syntax::{DeclHead, Declarator, Expr, Stmt, StmtKind};
+use ck_syntax::{Bracket, DeclHead, Declarator, DeclaratorTail, Expr, LoopItem, Stmt, StmtKind};
 use parse_exprs::expr::{
     chuck_rest, closed_expr, closed_exprs, declarator, operand, optional_expr,
 };
@@ -231,20 +234,109 @@ pub fn do_end<'a>(
     }
 }
 
-/// The parentheses of a `for`, one deeper than `depth`.
-pub fn for_head<'a>(
+/// How many pairs of brackets the first declarator of a `for` has, if a `:` may come behind it.
+fn item_pairs(head: &DeclHead, declarator: &Declarator) -> Option<usize>
+    ensures { result ≡ each_pairs head.now (view_declr declarator.now) }
+{
+    if head.is_static {
+        return None;
+    }
+    match &declarator.tail {
+        DeclaratorTail::Brackets(brackets) => empty_pairs(brackets.items()),
+        DeclaratorTail::Arguments(_) => None,
+    }
+}
+
+/// How many pairs of brackets these are, where none has a size.
+fn empty_pairs(brackets: &[Bracket]) -> Option<usize>
+    ensures { result ≡ some_pairs (brackets_of no_brackets brackets.now) }
+{
+    for bracket in brackets {
+        match bracket {
+            Bracket::Empty => {}
+            Bracket::Size(_) => return None,
+        }
+    }
+    Some(brackets.len())
+}
+
+/// How many pairs of brackets the item of a `for` has, and what stands behind the `:`, where the
+/// declarator is one and a `:` comes next.
+fn item_colon<'a>(
+    head: &DeclHead,
+    declarator: &Declarator,
+    tokens: &'a [Token],
+) -> Option<(usize, &'a [Token])>
+    ensures colon { FindsColon (each_pairs head.now (view_declr declarator.now)) tokens.now result }
+    ensures fewer { IfSome result (λ x. length x.1.now < length tokens.now) }
+{
+    let pairs = item_pairs(head, declarator)?;
+    let rest = eat_mark(tokens, Mark::Colon)?;
+    Some((pairs, rest))
+}
+
+/// What begins the parentheses of a `for`, behind the declaration that it begins with.
+fn declared_start<'a>(
+    alloc: Global,
+    depth: u32,
+    line: u32,
+    head: DeclHead,
+    first: Declarator,
+    tokens: &'a [Token],
+) -> Parsed<'a, ForStart>
+    requires { depth ≤ MAX_NESTING }
+    ensures reads { ReadsStart (λ h. each_or depth h.item h.stmt line head (view_declr first))
+        tokens.now result }
+    ensures fewer { IfOk result (λ x. length x.1.now < length tokens.now) }
+{
+    if let Some((brackets, rest)) = item_colon(&head, &first, tokens) {
+        let item = LoopItem {
+            head,
+            name: first.name,
+            brackets,
+        };
+        Ok((ForStart::Item(item), rest))
+    } else {
+        let (stmt, rest) = declare_stmt(alloc, depth, line, head, first, tokens)?;
+        Ok((ForStart::Stmt(stmt), rest))
+    }
+}
+
+/// What begins the parentheses of a `for`.
+pub fn for_start<'a>(alloc: Global, depth: u32, tokens: &'a [Token]) -> Parsed<'a, ForStart>
+    requires { depth ≤ MAX_NESTING }
+    ensures reads { ReadsStart (a_for_start depth) tokens.now result }
+    ensures fewer { IfOk result (λ x. length x.1.now < length tokens.now) }
+{
+    if let Some(rest) = eat_mark(tokens, Mark::Semicolon) {
+        let line = next_line(tokens);
+        return Ok((ForStart::Stmt(node(alloc, line, StmtKind::Empty)?), rest));
+    }
+    let (first, behind) = operand(alloc, depth, tokens)?;
+    match first {
+        Operand::Declaration {
+            line,
+            head,
+            declarator,
+        } => declared_start(alloc, depth, line, head, declarator, behind),
+        Operand::Value { expr, depth: at } => {
+            let (stmt, rest) = simple_stmt(alloc, depth, at, expr, behind)?;
+            Ok((ForStart::Stmt(stmt), rest))
+        }
+    }
+}
+
+/// The parentheses of a `for` of three parts, behind the first, which stand at `depth`.
+pub fn for_rest<'a>(
     alloc: Global,
     depth: u32,
     tokens: &'a [Token],
-) -> Result<(Box<Stmt>, Box<Stmt>, Option<Box<Expr>>, &'a [Token]), Fault>
+) -> Result<(Box<Stmt>, Option<Box<Expr>>, &'a [Token]), Fault>
     requires { depth ≤ MAX_NESTING }
-    ensures reads { ReadsForHead depth tokens.now result }
-    ensures fewer { IfOk result (λ x. length x.3.now < length tokens.now) }
+    ensures reads { ReadsForRest depth tokens.now result }
+    ensures fewer { IfOk result (λ x. length x.2.now < length tokens.now) }
 {
-    let open = expect_mark(tokens, Mark::LeftParen)?;
-    let inside = deeper(depth, tokens)?;
-    let (start, second) = expr_stmt(alloc, inside, open)?;
-    let (test, third) = expr_stmt(alloc, inside, second)?;
-    let (step, rest) = optional_expr(alloc, inside, third, Mark::RightParen)?;
-    Ok((start, test, step, rest))
+    let (test, behind) = expr_stmt(alloc, depth, tokens)?;
+    let (step, rest) = optional_expr(alloc, depth, behind, Mark::RightParen)?;
+    Ok((test, step, rest))
 }

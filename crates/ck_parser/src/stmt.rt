@@ -8,12 +8,13 @@ ghost use Rattle.parse_exprs.specs.Reads.{ReadsPart};
 ghost use Rattle.ck_syntax.specs.Tree.{no_stmts};
 ghost use Rattle.ck_syntax.specs.View.{stmts_of};
 
-use crate::plain_stmt::{begins_stmt, do_end, for_head, parenthesized, plain_stmt};
+use crate::plain_stmt::{begins_stmt, do_end, for_rest, for_start, parenthesized, plain_stmt};
 use crate::stmt_node as node;
-use crate::stmt_node::LoopWord;
+use crate::stmt_node::{ForStart, LoopWord};
 use ck_base::List;
 use ck_lexer::{Mark, Token, Word};
 use ck_syntax::{Expr, Stmt};
+use parse_exprs::expr::closed_expr;
 use parse_exprs::heap::push_boxed;
 use parse_exprs::tokens::{deeper, eat_word, expect_mark, first, opening_of};
 use parse_exprs::{Fault, Opening, Parsed};
@@ -124,9 +125,21 @@ fn for_stmt<'a>(alloc: Global, line: u32, depth: u32, tokens: &'a [Token]) -> Pa
     ensures reads { ReadsStmt (after_for depth line) tokens.now result }
     ensures fewer { IfOk result (λ x. length x.1.now < length tokens.now) }
 {
-    let (start, test, step, behind) = for_head(alloc, depth, tokens)?;
-    let (body, rest) = inner_stmt(alloc, depth, behind)?;
-    Ok((node::for_do(alloc, line, start, test, step, body)?, rest))
+    let open = expect_mark(tokens, Mark::LeftParen)?;
+    let inside = deeper(depth, tokens)?;
+    let (start, behind) = for_start(alloc, inside, open)?;
+    match start {
+        ForStart::Stmt(start) => {
+            let (test, step, close) = for_rest(alloc, inside, behind)?;
+            let (body, rest) = inner_stmt(alloc, depth, close)?;
+            Ok((node::for_do(alloc, line, start, test, step, body)?, rest))
+        }
+        ForStart::Item(item) => {
+            let (array, close) = closed_expr(alloc, inside, behind, Mark::RightParen)?;
+            let (body, rest) = inner_stmt(alloc, depth, close)?;
+            Ok((node::for_each(alloc, line, item, array, body)?, rest))
+        }
+    }
 }
 
 /// A block, behind its brace.

@@ -1,12 +1,12 @@
 //! The nodes of statements, made of their parts.
-ghost use Rattle.ck_parser.specs.Statements.{MakesStmt, loop_of, stmt_of};
+ghost use Rattle.ck_parser.specs.Statements.{MakesStmt, each_of, loop_of, stmt_of};
 ghost use Rattle.parse_exprs.specs.Operands.{tree_of};
 ghost use Rattle.ck_syntax.specs.Tree as trees;
 ghost use Rattle.ck_syntax.specs.Tree.{expr_line, no_stmts, return as a_return};
 ghost use Rattle.ck_syntax.specs.View.{stmts_of, view_option, view_stmt_kind};
 
 use ck_base::List;
-use ck_syntax::{Expr, Stmt, StmtKind};
+use ck_syntax::{Expr, LoopItem, Stmt, StmtKind};
 use fixed_point::Memory;
 use parse_exprs::heap::boxed;
 use std::alloc::Global;
@@ -17,6 +17,15 @@ pub enum LoopWord {
     While,
     Until,
     Repeat,
+}
+
+/// What begins the parentheses of a `for`.
+#[derive(Drop)]
+pub enum ForStart {
+    /// The first of three parts.
+    Stmt(Box<Stmt>),
+    /// What the items of an array are called, and the `:` behind it.
+    Item(LoopItem),
 }
 
 /// A statement of this line and kind.
@@ -145,4 +154,19 @@ pub fn for_do(
         body,
     };
     node(alloc, line, kind)
+}
+
+/// A `for` over an array.
+pub fn for_each(
+    alloc: Global,
+    line: u32,
+    item: LoopItem,
+    array: Box<Expr>,
+    body: Box<Stmt>,
+) -> Result<Box<Stmt>, Memory>
+    ensures { MakesStmt (each_of line item (tree_of array) (stmt_of body)) result }
+{
+    let item = boxed(alloc, item)?;
+    let array = Box::into_inner(array);
+    node(alloc, line, StmtKind::ForEach { item, array, body })
 }

@@ -19,7 +19,7 @@ use Rattle.ck_typed.specs.declared.operation.Binary.{Binary as OfTwo}
 use Rattle.ck_typed.specs.declared.operation.Binary.TheVariants as binary
 use Rattle.ck_typed.specs.declared.operation.Variadic.{Variadic as OfMany}
 use Rattle.ck_typed.specs.declared.operation.Variadic.TheVariants as variadic
-use Rattle.ck_typed.specs.Tree.{Expr, Exprs, no_exprs, more_exprs, Leaf, Text, Unary, Binary, Variadic, And, Or, Choice, Assign, AssignDeclared, Update, Prefix, Postfix, New as Making, NewObjects, CallOf, SporkOf, Stmt, Stmts, no_stmts, more_stmts, Simple, Block, Print as Printing, If, Loop, LoopLast, For, ForEver, Repeat, Break, Continue, Return, Fun}
+use Rattle.ck_typed.specs.Tree.{Expr, Exprs, no_exprs, more_exprs, Leaf, Text, Unary, Binary, Variadic, And, Or, Choice, Assign, AssignDeclared, Update, Prefix, Postfix, New as Making, NewObjects, Construct, CallOf, SporkOf, Stmt, Stmts, no_stmts, more_stmts, Simple, Block, Print as Printing, If, Loop, LoopLast, For, ForEver, Repeat, ForEach, Break, Continue, Return, Fun}
 use Rattle.ck_typed.specs.WellFormed.{LiesIn, ExprLies, ExprsLie, StmtLies, StmtsLie, FunLies}
 use Rattle.ck_code.specs.declared.code.CodeParts.{CodeParts}
 use Rattle.ck_code.specs.declared.code.Step.{Step}
@@ -169,15 +169,16 @@ module _ (classes : List Class) (texts : List (List ℕ)) where
         )
     expr_length (Making c place) p =
         omega (arith, bodies_length (bodies_of classes c) place (p + 1))
-    expr_length (NewObjects (elem.Class c) n place) p =
+    expr_length (NewObjects (elem.Class c) n constructor place) p =
         omega (
           arith,
           length-append {A = Step},
           expr_length n p,
           bodies_length (bodies_of classes c) place (expr_end classes p n + 1 + 1 + 1 + 1 + 1),
         )
-    expr_length (NewObjects (elem.Unit kind) n place) p =
+    expr_length (NewObjects (elem.Unit kind) n constructor place) p =
         omega (arith, length-append {A = Step}, expr_length n p)
+    expr_length (Construct o f arguments place) p = expr_length o p
     expr_length (CallOf o f arguments place) p =
         omega (
           arith,
@@ -269,6 +270,7 @@ module _ (classes : List Class) (texts : List (List ℕ)) where
           expr_length count p,
           stmt_length body (next + 1 + 1 + 1) next first,
         )
+    stmt_length (ForEach array local widens body place) out again p = omega arith
     stmt_length (Break place) out again p = refl
     stmt_length (Continue place) out again p = refl
     stmt_length (Return e place) out again p =
@@ -435,13 +437,14 @@ module _ (files : ℕ) where
             (both_lie _ _ (update_lies spot (step_of direction) place h.1) (h.1, (h.1, tt))),
       )
       expr_lies (Making c place) p h = (h, bodies_lie (bodies_of classes c) place h)
-      expr_lies (NewObjects (elem.Class c) n place) p h =
+      expr_lies (NewObjects (elem.Class c) n constructor place) p h =
           let bodies = bodies_lie (bodies_of classes c) place h.1 in
           both_lie _ _ (expr_lies n p h.0)
           (h.1, (h.1, (h.1, (h.1, (h.1, both_lie _ _ bodies (h.1, (h.1, tt)))))))
-      expr_lies (NewObjects (elem.Unit kind) n place) p h =
+      expr_lies (NewObjects (elem.Unit kind) n constructor place) p h =
           both_lie _ _ (expr_lies n p h.0)
           (h.1, (h.1, (h.1, (h.1, (h.1, (h.1, (h.1, tt)))))))
+      expr_lies (Construct o f arguments place) p h = expr_lies o p h.0
       expr_lies (CallOf o f arguments place) p h =
           both_lie _ _ (expr_lies o p h.0)
           (h.2, both_lie _ _ (args_lie arguments (expr_end classes p o + 1) h.1) (h.2, tt))
@@ -518,6 +521,7 @@ module _ (files : ℕ) where
             h.2,
             (h.2, (h.2, (h.2, (h.2, both_lie _ _ round (h.2, (h.2, (h.2, (h.2, tt)))))))),
           )
+      stmt_lies (ForEach array local widens body place) out again p h = tt
       stmt_lies (Break place) out again p h = (h, tt)
       stmt_lies (Continue place) out again p h = (h, tt)
       stmt_lies (Return e place) out again p h = both_lie _ _ (expr_lies e p h.0) (h.1, tt)

@@ -10,7 +10,7 @@ use Rattle.ck_values.specs.declared.operator.Op2.TheVariants.{SubIntInt, GtIntIn
 use Rattle.ck_values.specs.declared.trap.Place.{Place}
 use Rattle.ck_store.specs.Objects.{bodies_of}
 use Rattle.ck_typed.specs.declared.class.Class.{Class}
-use Rattle.ck_typed.specs.Tree.{Expr, Exprs, no_exprs, more_exprs, Leaf, Text as TextLiteral, Unary, Binary, Variadic, And, Or, Choice, Assign, AssignDeclared, Update, Prefix, Postfix, New as Making, NewObjects, CallOf, SporkOf, Stmt, Stmts, no_stmts, more_stmts, Simple, Block, Print as Printing, If, Loop, LoopLast, For, ForEver, Repeat, Break, Continue, Return as Returning, Fun as TypedFun, Program}
+use Rattle.ck_typed.specs.Tree.{Expr, Exprs, no_exprs, more_exprs, Leaf, Text as TextLiteral, Unary, Binary, Variadic, And, Or, Choice, Assign, AssignDeclared, Update, Prefix, Postfix, New as Making, NewObjects, Construct, CallOf, SporkOf, Stmt, Stmts, no_stmts, more_stmts, Simple, Block, Print as Printing, If, Loop, LoopLast, For, ForEver, Repeat, ForEach, Break, Continue, Return as Returning, Fun as TypedFun, Program}
 use Rattle.ck_code.specs.declared.instr.Instr.{Instr}
 use Rattle.ck_code.specs.declared.instr.Instr.TheVariants.{Int, Float, Dur, Time, Text, Null, NoShred, Dup, Drop, Op1, Op2, Jump, JumpZero, Turn, Call, Return, New, Ugen, Row, Each, Fill, Spork, Print}
 use Rattle.ck_code.specs.declared.code.Step.{Step}
@@ -67,9 +67,10 @@ module _ (classes : List Class) where
     expr_end p (Postfix direction spot address place) =
         spot_end (args_end (p + 1) address) spot + 1 + 1
     expr_end p (Making c place) = bodies_end (p + 1) (bodies_of classes c)
-    expr_end p (NewObjects (elem.Class c) n place) =
+    expr_end p (NewObjects (elem.Class c) n constructor place) =
         bodies_end (expr_end p n + 1 + 1 + 1 + 1 + 1) (bodies_of classes c) + 1 + 1
-    expr_end p (NewObjects (elem.Unit kind) n place) = expr_end p n + 1 + 1 + 1 + 1 + 1 + 1 + 1
+    expr_end p (NewObjects (elem.Unit kind) n constructor place) = expr_end p n + 1 + 1 + 1 + 1 + 1 + 1 + 1
+    expr_end p (Construct o f arguments place) = expr_end p o
     expr_end p (CallOf o f arguments place) = args_end (expr_end p o + 1) arguments + 1
     expr_end p (SporkOf o f arguments place) = args_end (expr_end p o + 1) arguments + 1
     expr_end p _ = p
@@ -98,6 +99,7 @@ module _ (classes : List Class) where
         stmt_end (stmt_end (stmt_end p start + 1) body) step + 1
     stmt_end p (Repeat count body place) =
         stmt_end (expr_end p count + 1 + 1 + 1 + 1 + 1) body + 1 + 1 + 1 + 1
+    stmt_end p (ForEach array local widens body place) = p
     stmt_end p (Break place) = p + 1
     stmt_end p (Continue place) = p + 1
     stmt_end p (Returning e place) = expr_end p e + 1
@@ -150,18 +152,20 @@ module _ (classes : List Class) where
           ∷ (args_code (p + 1) address ++ (update_code spot (step_of direction) place
           ++ at (Int (pos 1)) place ∷ at (Op2 (undone_by direction)) place ∷ []))
       expr_code p (Making c place) = at (New c) place ∷ bodies_code (bodies_of classes c) place
-      expr_code p (NewObjects (elem.Class c) n place) =
+      expr_code p (NewObjects (elem.Class c) n constructor place) =
           let round = expr_end p n + 1 + 1 in
           let made = bodies_end (round + 1 + 1 + 1) (bodies_of classes c) in
           expr_code p n ++ (at (Row (elem.Class c)) place ∷ at (Int (pos 0)) place
           ∷ at (Each (made + 1 + 1)) place ∷ at Turn place ∷ at (New c) place
           ∷ (bodies_code (bodies_of classes c) place
           ++ at Fill place ∷ at (Jump round) place ∷ []))
-      expr_code p (NewObjects (elem.Unit kind) n place) =
+      expr_code p (NewObjects (elem.Unit kind) n constructor place) =
           let round = expr_end p n + 1 + 1 in
           expr_code p n ++ (at (Row (elem.Unit kind)) place ∷ at (Int (pos 0)) place
           ∷ at (Each (round + 1 + 1 + 1 + 1 + 1)) place ∷ at Turn place ∷ at (Ugen kind) place
           ∷ at Fill place ∷ at (Jump round) place ∷ [])
+      -- no constructor is called yet: a program that has one isn't run
+      expr_code p (Construct o f arguments place) = expr_code p o
       expr_code p (CallOf o f arguments place) =
           expr_code p o ++ (at Drop place
           ∷ (args_code (expr_end p o + 1) arguments ++ at (Call f) place ∷ []))
@@ -231,6 +235,8 @@ module _ (classes : List Class) where
           ∷ at (JumpZero end) place ∷ at Turn place
           ∷ (stmt_code end next first body ++ (at (Int (pos 1)) place ∷ at (Op2 SubIntInt) place
           ∷ at (Jump round) place ∷ at Drop place ∷ [])))
+      -- nor is a loop over the items of an array run yet
+      stmt_code out again p (ForEach array local widens body place) = []
       stmt_code out again p (Break place) = at (Jump out) place ∷ []
       stmt_code out again p (Continue place) = at (Jump again) place ∷ []
       stmt_code out again p (Returning e place) = expr_code p e ++ at Return place ∷ []

@@ -6,7 +6,7 @@ use Rattle.std.specs.Str.{bytes_eq}
 use Rattle.ck_values.specs.declared.kind.Elem.TheVariants as elem
 use Rattle.ck_values.specs.declared.kind.Kind.{Kind}
 use Rattle.ck_values.specs.declared.kind.Kind.TheVariants.{One}
-use Rattle.ck_typed.specs.Tree.{Expr, Exprs, no_exprs, more_exprs, Text, Unary, Binary, Variadic, And, Or, Choice, Assign, AssignDeclared, Update, Prefix, Postfix, NewObjects, CallOf, SporkOf, Stmt, Stmts, no_stmts, more_stmts, Simple, Block, Print, If, Loop, LoopLast, For, ForEver, Repeat, Return, Fun, Program}
+use Rattle.ck_typed.specs.Tree.{Expr, Exprs, no_exprs, more_exprs, Text, Unary, Binary, Variadic, And, Or, Choice, Assign, AssignDeclared, Update, Prefix, Postfix, NewObjects, Construct, CallOf, SporkOf, Stmt, Stmts, no_stmts, more_stmts, Simple, Block, Print, If, Loop, LoopLast, For, ForEver, Repeat, Return, Fun, Program}
 
 abbrev mutual
   -- the strings of an expression, in the order of its code
@@ -24,7 +24,8 @@ abbrev mutual
   expr_texts (Update o e spot address place) = expr_texts e ++ exprs_texts address
   expr_texts (Prefix direction spot address place) = exprs_texts address
   expr_texts (Postfix direction spot address place) = exprs_texts address
-  expr_texts (NewObjects item n place) = expr_texts n
+  expr_texts (NewObjects item n constructor place) = expr_texts n
+  expr_texts (Construct o f arguments place) = expr_texts o
   expr_texts (CallOf o f arguments place) = expr_texts o ++ exprs_texts arguments
   expr_texts (SporkOf o f arguments place) = expr_texts o ++ exprs_texts arguments
   expr_texts _ = []

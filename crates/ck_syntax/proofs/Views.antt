@@ -1,7 +1,7 @@
 -- The views of trees that hold lists, at the lists that the program made them of.
 use Rattle.std.proofs.Common.{◌≡◌, ℕ, List, [], ◌∷◌, ◌++◌, refl, rules, Box, Global}
 use Rattle.ck_syntax.specs.Tree as t
-use Rattle.ck_syntax.specs.View.{view_expr, view_kind, view_exprs, view_brackets, with_bracket, view_stmt, view_stmt_kind, view_stmts, exprs_of, brackets_of, stmts_of, declrs_of, view_declr, params_of, members_of, view_member, items_of, view_item}
+use Rattle.ck_syntax.specs.View.{view_expr, view_kind, view_exprs, view_brackets, view_tail, with_bracket, view_stmt, view_stmt_kind, view_stmts, exprs_of, brackets_of, stmts_of, declrs_of, view_declr, params_of, members_of, view_member, items_of, view_item}
 use Rattle.ck_syntax.specs.declared.declaration.Base.{Base}
 use Rattle.ck_syntax.specs.declared.declaration.DeclHead.{DeclHead}
 use Rattle.ck_syntax.specs.declared.expr.Bracket.{Bracket}
@@ -9,6 +9,8 @@ use Rattle.ck_syntax.specs.declared.expr.Declarator.{Declarator}
 use Rattle.ck_syntax.specs.declared.expr.Expr.{Expr}
 use Rattle.ck_syntax.specs.declared.expr.ExprKind as raw
 use Rattle.ck_syntax.specs.declared.expr.Bracket.TheViews as expr_views
+use Rattle.ck_syntax.specs.declared.expr.DeclaratorTail as tail
+use Rattle.ck_syntax.specs.declared.expr.DeclaratorTail.{DeclaratorTail}
 use Rattle.ck_syntax.specs.declared.file.Item.{Item}
 use Rattle.ck_syntax.specs.declared.file.Member.{Member}
 use Rattle.ck_syntax.specs.declared.file.Param.{Param}
@@ -21,10 +23,10 @@ view_exprs-row : (n : _) (es : raw.Row_of-Expr n) (before : t.Exprs)
 view_exprs-row _ raw.end_of-Expr before = refl
 view_exprs-row _ (raw.more_of-Expr l k es) before = view_exprs-row _ es (t.and_expr before (view_kind l k))
 
-view_brackets-row : (n : _) (bs : raw.Row_of-Bracket n) (before : t.Brackets)
-    → view_brackets before bs ≡ brackets_of before (raw.items-the_row-Bracket n bs)
-view_brackets-row _ raw.end_of-Bracket before = refl
-view_brackets-row _ (raw.more_of-Bracket b bs) before = view_brackets-row _ bs (with_bracket before b)
+view_brackets-row : (n : _) (bs : tail.Row_of-Bracket n) (before : t.Brackets)
+    → view_brackets before bs ≡ brackets_of before (tail.items-the_row-Bracket n bs)
+view_brackets-row _ tail.end_of-Bracket before = refl
+view_brackets-row _ (tail.more_of-Bracket b bs) before = view_brackets-row _ bs (with_bracket before b)
 
 view_stmts-row : (n : _) (ss : raw_stmt.Row_of-Stmt n) (before : t.Stmts)
     → view_stmts before ss ≡ stmts_of before (raw_stmt.items-the_row-Stmt n ss)
@@ -41,9 +43,21 @@ view-Call l e es = search (rules, expr_views.the_lemmas, view_exprs-row)
 pub view-New : (l : ℕ) (b : Base) (es : List Expr) → view_kind l (raw.New b es) ≡ t.new l b (exprs_of t.no_exprs es)
 view-New l b es = search (rules, expr_views.the_lemmas, view_exprs-row)
 
+pub view-NewWith : (l : ℕ) (b : Base) (es : List Expr)
+    → view_kind l (raw.NewWith b es) ≡ t.new_with l b (exprs_of t.no_exprs es)
+view-NewWith l b es = search (rules, expr_views.the_lemmas, view_exprs-row)
+
+pub view-Brackets : (n : t.Name) (bs : List Bracket)
+    → view_tail n (tail.Brackets bs) ≡ t.declr n (brackets_of t.no_brackets bs)
+view-Brackets n bs = search (rules, expr_views.the_lemmas, view_brackets-row)
+
+pub view-Arguments : (n : t.Name) (es : List Expr)
+    → view_tail n (tail.Arguments es) ≡ t.declr_with n (exprs_of t.no_exprs es)
+view-Arguments n es = search (rules, expr_views.the_lemmas, view_exprs-row)
+
 pub view-Declare : (l : ℕ) (h : DeclHead) (x : Box Declarator Global)
     → view_kind l (raw.Declare h x) ≡ t.declare l h (view_declr x.value)
-view-Declare l h x = search (rules, expr_views.the_lemmas, view_brackets-row)
+view-Declare l h x = search (rules, expr_views.the_lemmas)
 
 pub view-Block : (l : ℕ) (ss : List Stmt) → view_stmt_kind l (raw_stmt.Block ss) ≡ t.block l (stmts_of t.no_stmts ss)
 view-Block l ss = search (rules, stmt_views.the_lemmas, view_stmts-row)

@@ -1,7 +1,15 @@
 -- How many constructs of a tree stand in one another: each is one higher than the highest of its
 -- parts, and a list is as high as its highest item.
 use Rattle.std.specs.Prelude.{ℕ, suc, max, Option, Some, None}
-use Rattle.ck_syntax.specs.Tree.{Expr, paren, array, call, index, member, postfix, dur, prefix, new, spork, cast, binary, choice, declare, chuck, Exprs, no_exprs, and_expr, Brackets, no_brackets, and_empty, and_size, Declr, declr, Declrs, no_declrs, and_declr, Stmt, block, simple, declares, print, if_then, if_else, while_do, until_do, do_while, do_until, for_do, repeat, return, Stmts, no_stmts, and_stmt, Fun, fun, Members, no_members, and_member, Member, fun_member, stmt_member, Class, class, Item, class_item, fun_item, stmt_item, File, no_items, and_item}
+use Rattle.ck_syntax.specs.Tree.{Expr, paren, array, call, index, member, postfix, dur, prefix, new}
+use Rattle.ck_syntax.specs.Tree.{new_with, spork, cast, binary, choice, declare, chuck, Exprs, no_exprs}
+use Rattle.ck_syntax.specs.Tree.{and_expr, Brackets, no_brackets, and_empty, and_size, Declr, declr}
+use Rattle.ck_syntax.specs.Tree.{declr_with, Declrs, no_declrs, and_declr, Stmt, block, simple}
+use Rattle.ck_syntax.specs.Tree.{declares, print, if_then, if_else, while_do, until_do, do_while}
+use Rattle.ck_syntax.specs.Tree.{do_until, for_do, for_each, repeat, return, Stmts, no_stmts, and_stmt}
+use Rattle.ck_syntax.specs.Tree.{Fun, fun, constructor, Members, no_members, and_member, Member}
+use Rattle.ck_syntax.specs.Tree.{fun_member, stmt_member, Class, class, Item, class_item, fun_item}
+use Rattle.ck_syntax.specs.Tree.{stmt_item, File, no_items, and_item}
 
 abbrev mutual
   pub expr_height : Expr → ℕ
@@ -14,6 +22,7 @@ abbrev mutual
   expr_height (dur l e u) = suc (max (expr_height e) (expr_height u))
   expr_height (prefix l o e) = suc (expr_height e)
   expr_height (new l b es) = suc (exprs_height es)
+  expr_height (new_with l b es) = suc (exprs_height es)
   expr_height (spork l e) = suc (expr_height e)
   expr_height (cast l e k) = suc (expr_height e)
   expr_height (binary l e o g) = suc (max (expr_height e) (expr_height g))
@@ -33,6 +42,7 @@ abbrev mutual
 
   pub declr_height : Declr → ℕ
   declr_height (declr n bs) = brackets_height bs
+  declr_height (declr_with n es) = exprs_height es
 
 abbrev pub declrs_height : Declrs → ℕ
 declrs_height no_declrs = 0
@@ -56,6 +66,7 @@ abbrev mutual
   stmt_height (do_until l s e) = suc (max (stmt_height s) (expr_height e))
   stmt_height (for_do l x y e s) =
       suc (max (max (stmt_height x) (stmt_height y)) (max (option_height e) (stmt_height s)))
+  stmt_height (for_each l h n q e s) = suc (max (expr_height e) (stmt_height s))
   stmt_height (repeat l e s) = suc (max (expr_height e) (stmt_height s))
   stmt_height (return l e) = suc (option_height e)
   stmt_height _ = 1
@@ -66,6 +77,7 @@ abbrev mutual
 
 abbrev pub fun_height : Fun → ℕ
 fun_height (fun l s k n ps ss) = suc (stmts_height ss)
+fun_height (constructor l ps ss) = suc (stmts_height ss)
 
 abbrev pub member_height : Member → ℕ
 member_height (fun_member x) = fun_height x

@@ -1,6 +1,15 @@
 -- The size of a tree: of how many tokens the grammar makes it.
 use Rattle.std.specs.Prelude.{ℕ, ◌+◌, ◌*◌, Bool, true, false, Option, Some, None}
-use Rattle.ck_syntax.specs.Tree.{Name, Expr, int, float, text, name, constant, time_unit, paren, array, call, index, member, postfix, dur, prefix, new, spork, cast, binary, choice, declare, chuck, Exprs, no_exprs, and_expr, Brackets, no_brackets, and_empty, and_size, Declr, declr, Declrs, no_declrs, and_declr, Stmt, block, empty, simple, declares, print, if_then, if_else, while_do, until_do, do_while, do_until, for_do, repeat, break, continue, return, Stmts, no_stmts, and_stmt, Params, no_params, and_param, Fun, fun, Members, no_members, and_member, Member, fun_member, stmt_member, Class, class, Item, class_item, fun_item, stmt_item, File, no_items, and_item}
+use Rattle.ck_syntax.specs.Tree.{Name, Expr, int, float, text, name, constant, time_unit, paren, array}
+use Rattle.ck_syntax.specs.Tree.{call, index, member, postfix, dur, prefix, new, new_with, spork, cast}
+use Rattle.ck_syntax.specs.Tree.{binary, choice, declare, chuck, Exprs, no_exprs, and_expr, Brackets}
+use Rattle.ck_syntax.specs.Tree.{no_brackets, and_empty, and_size, Declr, declr, declr_with, Declrs}
+use Rattle.ck_syntax.specs.Tree.{no_declrs, and_declr, Stmt, block, empty, simple, declares, print}
+use Rattle.ck_syntax.specs.Tree.{if_then, if_else, while_do, until_do, do_while, do_until, for_do}
+use Rattle.ck_syntax.specs.Tree.{for_each, repeat, break, continue, return, Stmts, no_stmts, and_stmt}
+use Rattle.ck_syntax.specs.Tree.{Params, no_params, and_param, Fun, fun, constructor, Members}
+use Rattle.ck_syntax.specs.Tree.{no_members, and_member, Member, fun_member, stmt_member, Class, class}
+use Rattle.ck_syntax.specs.Tree.{Item, class_item, fun_item, stmt_item, File, no_items, and_item}
 use Rattle.ck_syntax.specs.declared.declaration.DeclHead.{DeclHead}
 use Rattle.ck_syntax.specs.declared.declaration.TypeName.{TypeName}
 use Rattle.ck_syntax.specs.declared.file.Param.{Param}
@@ -14,7 +23,7 @@ one_if true = 1
 abbrev pub type_size : TypeName → ℕ
 type_size t = 1 + 2 * t.brackets
 
--- `static`, a base, `@`
+-- `static`, a base or `auto`, `@`
 abbrev pub head_size : DeclHead → ℕ
 head_size h = one_if h.is_static + 1 + one_if h.is_reference
 
@@ -35,6 +44,7 @@ abbrev mutual
   expr_size (dur l e u) = expr_size e + expr_size u + 1
   expr_size (prefix l o e) = expr_size e + 1
   expr_size (new l b es) = bracketed_size es + 2
+  expr_size (new_with l b es) = exprs_size es + 4
   expr_size (spork l e) = expr_size e + 2
   expr_size (cast l e t) = expr_size e + type_size t + 1
   expr_size (binary l e o f) = expr_size e + expr_size f + 1
@@ -64,6 +74,7 @@ abbrev mutual
 
   pub declr_size : Declr → ℕ
   declr_size (declr n bs) = brackets_size bs + 1
+  declr_size (declr_with n es) = exprs_size es + 3
 
 abbrev mutual
   -- declarators with a comma between each two
@@ -94,6 +105,7 @@ abbrev mutual
   stmt_size (do_while l s e) = stmt_size s + expr_size e + 5
   stmt_size (do_until l s e) = stmt_size s + expr_size e + 5
   stmt_size (for_do l a b e s) = stmt_size a + stmt_size b + option_size e + stmt_size s + 3
+  stmt_size (for_each l h n q e s) = head_size h + 2 * q + expr_size e + stmt_size s + 5
   stmt_size (repeat l e s) = expr_size e + stmt_size s + 3
   stmt_size (break l) = 2
   stmt_size (continue l) = 2
@@ -117,9 +129,10 @@ abbrev mutual
   params_before_comma no_params = 0
   params_before_comma (and_param ps p) = params_before_comma ps + param_size p + 1
 
--- `fun`, `static`, a type, a name, parameters in parentheses, a block
+-- `fun`, `static`, a type, a name, parameters in parentheses, a block; or `@` and `construct`
 abbrev pub fun_size : Fun → ℕ
 fun_size (fun l s t n ps ss) = one_if s + type_size t + params_size ps + stmts_size ss + 6
+fun_size (constructor l ps ss) = params_size ps + stmts_size ss + 7
 
 abbrev pub member_size : Member → ℕ
 member_size (fun_member f) = fun_size f

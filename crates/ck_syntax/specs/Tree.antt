@@ -33,6 +33,8 @@ mutual
     dur : ℕ → Expr → Expr → Expr
     prefix : ℕ → PrefixOp → Expr → Expr
     new : ℕ → Base → Exprs → Expr
+    -- with arguments
+    new_with : ℕ → Base → Exprs → Expr
     spork : ℕ → Expr → Expr
     cast : ℕ → Expr → TypeName → Expr
     binary : ℕ → Expr → BinaryOp → Expr → Expr
@@ -52,6 +54,8 @@ mutual
 
   pub data Declr : Type 0 where
     declr : Name → Brackets → Declr
+    -- with arguments
+    declr_with : Name → Exprs → Declr
 
 pub data Declrs : Type 0 where
   no_declrs : Declrs
@@ -71,6 +75,8 @@ mutual
     do_while : ℕ → Stmt → Expr → Stmt
     do_until : ℕ → Stmt → Expr → Stmt
     for_do : ℕ → Stmt → Stmt → Option Expr → Stmt → Stmt
+    -- the items of an array: head and name of the item, with so many pairs of brackets
+    for_each : ℕ → DeclHead → Name → (pairs : ℕ) → Expr → Stmt → Stmt
     repeat : ℕ → Expr → Stmt → Stmt
     break : ℕ → Stmt
     continue : ℕ → Stmt
@@ -84,9 +90,11 @@ pub data Params : Type 0 where
   no_params : Params
   and_param : Params → Param → Params
 
--- line, whether it is static, result, name, parameters, body
 pub data Fun : Type 0 where
+  -- line, whether it is static, result, name, parameters, body
   fun : ℕ → Bool → TypeName → Name → Params → Stmts → Fun
+  -- line, parameters, body
+  constructor : ℕ → Params → Stmts → Fun
 
 pub data Member : Type 0 where
   fun_member : Fun → Member
@@ -109,6 +117,10 @@ pub data File : Type 0 where
   no_items : File
   and_item : File → Item → File
 
+abbrev pub declr_name : Declr → Name
+declr_name (declr n bs) = n
+declr_name (declr_with n es) = n
+
 -- the line of an expression's first token
 abbrev pub expr_line : Expr → ℕ
 expr_line (int l v) = l
@@ -126,6 +138,7 @@ expr_line (postfix l e o) = l
 expr_line (dur l e u) = l
 expr_line (prefix l o e) = l
 expr_line (new l b es) = l
+expr_line (new_with l b es) = l
 expr_line (spork l e) = l
 expr_line (cast l e t) = l
 expr_line (binary l e o f) = l

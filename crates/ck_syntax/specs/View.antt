@@ -6,9 +6,12 @@ use Rattle.ck_syntax.specs.declared.expr.Expr.{Expr}
 use Rattle.ck_syntax.specs.declared.expr.ExprKind as raw
 use Rattle.ck_syntax.specs.declared.expr.Bracket as bracket
 use Rattle.ck_syntax.specs.declared.expr.Declarator as declarator
+use Rattle.ck_syntax.specs.declared.expr.DeclaratorTail as tail
 use Rattle.ck_syntax.specs.declared.stmt.Stmt.{Stmt}
 use Rattle.ck_syntax.specs.declared.stmt.StmtKind as stmt
 use Rattle.ck_syntax.specs.declared.file.FunDef as fun_def
+use Rattle.ck_syntax.specs.declared.file.FunHead.{FunHead}
+use Rattle.ck_syntax.specs.declared.file.FunHead.TheVariants as head
 use Rattle.ck_syntax.specs.declared.file.ClassDef as class_def
 use Rattle.ck_syntax.specs.declared.file.Member.TheVariants as member
 use Rattle.ck_syntax.specs.declared.file.Item.TheVariants as item
@@ -35,23 +38,28 @@ abbrev mutual
   view_kind l (raw.Dur' p el e q ul u) = t.dur l (view_kind el e) (view_kind ul u)
   view_kind l (raw.Prefix' o p el e) = t.prefix l o (view_kind el e)
   view_kind l (raw.New' b shape es) = t.new l b (view_exprs t.no_exprs es)
+  view_kind l (raw.NewWith' b shape es) = t.new_with l b (view_exprs t.no_exprs es)
   view_kind l (raw.Spork' p el e) = t.spork l (view_kind el e)
   view_kind l (raw.Cast' p el e k) = t.cast l (view_kind el e) k
   view_kind l (raw.Binary' p el e o q fl f) = t.binary l (view_kind el e) o (view_kind fl f)
   view_kind l (raw.Cond' p cl c q el e r fl f) =
       t.choice l (view_kind cl c) (view_kind el e) (view_kind fl f)
-  view_kind l (raw.Declare' h p n shape bs) =
-      t.declare l h (t.declr n (view_brackets t.no_brackets bs))
+  view_kind l (raw.Declare' h p n x) = t.declare l h (view_tail n x)
   view_kind l (raw.Chuck' p el e o q fl f) = t.chuck l (view_kind el e) o (view_kind fl f)
+
+  -- a declarator of this name and tail
+  pub view_tail : t.Name → tail.DeclaratorTail → t.Declr
+  view_tail n (tail.Brackets' shape bs) = t.declr n (view_brackets t.no_brackets bs)
+  view_tail n (tail.Arguments' shape es) = t.declr_with n (view_exprs t.no_exprs es)
 
   -- these, behind others
   pub view_exprs : t.Exprs → {m : _} → raw.Row_of-Expr m → t.Exprs
   view_exprs before raw.end_of-Expr = before
   view_exprs before (raw.more_of-Expr l k es) = view_exprs (t.and_expr before (view_kind l k)) es
 
-  pub view_brackets : t.Brackets → {m : _} → raw.Row_of-Bracket m → t.Brackets
-  view_brackets before raw.end_of-Bracket = before
-  view_brackets before (raw.more_of-Bracket b bs) = view_brackets (with_bracket before b) bs
+  pub view_brackets : t.Brackets → {m : _} → tail.Row_of-Bracket m → t.Brackets
+  view_brackets before tail.end_of-Bracket = before
+  view_brackets before (tail.more_of-Bracket b bs) = view_brackets (with_bracket before b) bs
 
   -- the pairs of brackets, and one more
   pub with_bracket : t.Brackets → bracket.Bracket → t.Brackets
@@ -71,7 +79,7 @@ brackets_of before [] = before
 brackets_of before (b ∷ bs) = brackets_of (with_bracket before b) bs
 
 abbrev pub view_declr : declarator.Declarator → t.Declr
-view_declr x = t.declr x.name (brackets_of t.no_brackets x.brackets)
+view_declr x = view_tail x.name x.tail
 
 abbrev pub declrs_of : t.Declrs → List declarator.Declarator → t.Declrs
 declrs_of before [] = before
@@ -99,6 +107,8 @@ abbrev mutual
   view_stmt_kind l (stmt.DoUntil' p sl s e) = t.do_until l (view_stmt_kind sl s) (view_expr e)
   view_stmt_kind l (stmt.For' p al a q bl b e r sl s) =
       t.for_do l (view_stmt_kind al a) (view_stmt_kind bl b) (view_option e) (view_stmt_kind sl s)
+  view_stmt_kind l (stmt.ForEach' x e p sl s) =
+      t.for_each l x.value.head x.value.name x.value.brackets (view_expr e) (view_stmt_kind sl s)
   view_stmt_kind l (stmt.Repeat' e p sl s) = t.repeat l (view_expr e) (view_stmt_kind sl s)
   view_stmt_kind l stmt.Break = t.break l
   view_stmt_kind l stmt.Continue = t.continue l
@@ -122,10 +132,13 @@ abbrev pub params_of : t.Params → List Param → t.Params
 params_of before [] = before
 params_of before (p ∷ ps) = params_of (t.and_param before p) ps
 
+-- a function of this line, head, parameters and body
+abbrev pub headed : ℕ → FunHead → t.Params → t.Stmts → t.Fun
+headed l (head.Named is_static result name) ps ss = t.fun l is_static result name ps ss
+headed l head.Construct ps ss = t.constructor l ps ss
+
 abbrev pub view_fun : fun_def.FunDef → t.Fun
-view_fun f =
-    t.fun f.line f.is_static f.result f.name (params_of t.no_params f.params)
-    (stmts_of t.no_stmts f.body)
+view_fun f = headed f.line f.head (params_of t.no_params f.params) (stmts_of t.no_stmts f.body)
 
 abbrev pub view_member : Member → t.Member
 view_member (member.Fun f) = t.fun_member (view_fun f.value)

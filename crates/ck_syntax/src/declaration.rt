@@ -27,11 +27,12 @@ pub struct TypeName {
     pub brackets: usize,
 }
 
-/// `DeclHead = 'static'? Base '@'?`
+/// `DeclHead = 'static'? (Base | 'auto') '@'?`
 #[derive(Drop)]
 pub struct DeclHead {
     pub is_static: bool,
-    pub base: Base,
-    /// Whether `@` stands behind the base.
+    /// The base; `None`: `auto` stands in its place.
+    pub base: Option<Base>,
+    /// Whether `@` stands behind the base or `auto`.
     pub is_reference: bool,
 }

@@ -67,6 +67,11 @@ pub enum ExprKind {
         base: Base,
         sizes: List<Expr>,
     },
+    /// `Unary = 'new' Base '(' (Expr (',' Expr)*)? ')'`
+    NewWith {
+        base: Base,
+        arguments: List<Expr>,
+    },
     /// `Unary = 'spork' '~' Postfix`
     Spork(Box<Expr>),
     /// `Cast = Cast '$' Type`
@@ -99,12 +104,22 @@ pub enum ExprKind {
     },
 }
 
-/// `Declr = Name ('[' Expr? ']')*`
+/// `Declr = Name ('[' Expr? ']')* | Name '(' (Expr (',' Expr)*)? ')'`
 #[cycle(expr)]
 #[derive(Drop)]
 pub struct Declarator {
     pub name: Text,
-    pub brackets: List<Bracket>,
+    pub tail: DeclaratorTail,
+}
+
+/// What stands behind the name of a declarator.
+#[cycle(expr)]
+#[derive(Drop)]
+pub enum DeclaratorTail {
+    /// `('[' Expr? ']')*`: none too.
+    Brackets(List<Bracket>),
+    /// `'(' (Expr (',' Expr)*)? ')'`
+    Arguments(List<Expr>),
 }
 
 /// `'[' Expr? ']'` of a declarator.

@@ -39,17 +39,28 @@ pub enum Member {
     Stmt(Stmt),
 }
 
-/// `FunDef = 'fun' 'static'? Type Name '(' (Par (',' Par)*)? ')' Block`
+/// `FunDef = 'fun' ('static'? Type Name | '@' 'construct') '(' (Par (',' Par)*)? ')' Block`
 #[derive(Drop)]
 pub struct FunDef {
     /// The line of its first token.
     pub line: u32,
-    pub is_static: bool,
-    pub result: TypeName,
-    pub name: Text,
+    pub head: FunHead,
     pub params: List<Param>,
     /// The statements of its block.
     pub body: List<Stmt>,
+}
+
+/// What stands between `fun` and the parameters.
+#[derive(Drop)]
+pub enum FunHead {
+    /// `'static'? Type Name`
+    Named {
+        is_static: bool,
+        result: TypeName,
+        name: Text,
+    },
+    /// `'@' 'construct'`: a constructor.
+    Construct,
 }
 
 /// `Par = Type Name ('[' ']')*`

@@ -13,7 +13,7 @@ mod operator;
 mod stmt;
 
 pub use declaration::{Base, DeclHead, TypeName};
-pub use expr::{Bracket, Declarator, Expr, ExprKind};
-pub use file::{ClassDef, File, FunDef, Item, Member, Param};
+pub use expr::{Bracket, Declarator, DeclaratorTail, Expr, ExprKind};
+pub use file::{ClassDef, File, FunDef, FunHead, Item, Member, Param};
 pub use operator::{BinaryOp, ChuckOp, Constant, PostfixOp, PrefixOp, TimeUnit};
-pub use stmt::{Stmt, StmtKind};
+pub use stmt::{LoopItem, Stmt, StmtKind};

@@ -1,6 +1,6 @@
 use crate::declaration::DeclHead;
 use crate::expr::{Declarator, Expr};
-use ck_base::List;
+use ck_base::{List, Text};
 
 /// A statement.
 #[cycle(stmt)]
@@ -66,6 +66,12 @@ pub enum StmtKind {
         step: Option<Box<Expr>>,
         body: Box<Stmt>,
     },
+    /// `'for' '(' (Base | 'auto') '@'? Name ('[' ']')* ':' Expr ')' Stmt`
+    ForEach {
+        item: Box<LoopItem>,
+        array: Expr,
+        body: Box<Stmt>,
+    },
     /// `'repeat' '(' Expr ')' Stmt`
     Repeat {
         count: Expr,
@@ -77,4 +83,14 @@ pub enum StmtKind {
     Continue,
     /// `'return' Expr? ';'`
     Return(Option<Box<Expr>>),
+}
+
+/// `(Base | 'auto') '@'? Name ('[' ']')*`: what a `for` over an array calls each item.
+#[derive(Drop)]
+pub struct LoopItem {
+    /// Never static.
+    pub head: DeclHead,
+    pub name: Text,
+    /// How many pairs of brackets stand behind the name.
+    pub brackets: usize,
 }

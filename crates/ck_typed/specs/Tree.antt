@@ -1,5 +1,5 @@
 -- The typed trees without where they lie in memory.
-use Rattle.std.specs.Prelude.{ℕ, Bool, List}
+use Rattle.std.specs.Prelude.{ℕ, Bool, List, Option}
 use Rattle.ck_values.specs.declared.kind.Elem.{Elem}
 use Rattle.ck_values.specs.declared.kind.Kind.{Kind}
 use Rattle.ck_values.specs.declared.operator.Op2.{Op2}
@@ -31,7 +31,8 @@ mutual
     Prefix : Direction → Spot → (address : Exprs) → Place → Expr
     Postfix : Direction → Spot → (address : Exprs) → Place → Expr
     New : (class : ℕ) → Place → Expr
-    NewObjects : Elem → (size : Expr) → Place → Expr
+    NewObjects : Elem → (size : Expr) → (constructor : Option ℕ) → Place → Expr
+    Construct : (object : Expr) → (fun : ℕ) → (arguments : Exprs) → Place → Expr
     CallOf : (object : Expr) → (fun : ℕ) → (arguments : Exprs) → Place → Expr
     SporkOf : (object : Expr) → (fun : ℕ) → (arguments : Exprs) → Place → Expr
 
@@ -52,6 +53,7 @@ mutual
     For : (start : Stmt) → (test : Expr) → (step body : Stmt) → Place → Stmt
     ForEver : (start step body : Stmt) → Place → Stmt
     Repeat : (count : Expr) → (body : Stmt) → Place → Stmt
+    ForEach : (array : Expr) → (local : ℕ) → (widens : Bool) → (body : Stmt) → Place → Stmt
     Break : Place → Stmt
     Continue : Place → Stmt
     Return : Expr → Place → Stmt

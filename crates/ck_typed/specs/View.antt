@@ -5,7 +5,7 @@ use Rattle.ck_typed.specs.declared.stmt.TypedStmt as stmt
 use Rattle.ck_typed.specs.declared.program.TypedFun.{TypedFun}
 use Rattle.ck_typed.specs.declared.program.ProgramParts.{ProgramParts}
 use Rattle.ck_typed.specs.Tree as t
-use Rattle.ck_typed.specs.Tree.{Expr, Exprs, Stmt, Stmts, Fun, Program, no_exprs, more_exprs, no_stmts, more_stmts, Simple, Block, Print, If, Loop, LoopLast, For, ForEver, Repeat, Break, Continue, Return}
+use Rattle.ck_typed.specs.Tree.{Expr, Exprs, Stmt, Stmts, Fun, Program, no_exprs, more_exprs, no_stmts, more_stmts, Simple, Block, Print, If, Loop, LoopLast, For, ForEver, Repeat, ForEach, Break, Continue, Return}
 
 abbrev mutual
   pub view_expr : raw.TypedExpr → Expr
@@ -31,7 +31,10 @@ abbrev mutual
   view_expr (raw.Postfix' direction spot shape address place) =
       t.Postfix direction spot (view_exprs address) place
   view_expr (raw.New class place) = t.New class place
-  view_expr (raw.NewObjects' elem p size place) = t.NewObjects elem (view_expr size) place
+  view_expr (raw.NewObjects' elem p size constructor place) =
+      t.NewObjects elem (view_expr size) constructor place
+  view_expr (raw.Construct' p object fun shape arguments place) =
+      t.Construct (view_expr object) fun (view_exprs arguments) place
   view_expr (raw.CallOf' p object fun shape arguments place) =
       t.CallOf (view_expr object) fun (view_exprs arguments) place
   view_expr (raw.SporkOf' p object fun shape arguments place) =
@@ -62,6 +65,8 @@ abbrev mutual
   view_stmt (stmt.ForEver' p start p1 step p2 body place) =
       ForEver (view_stmt start) (view_stmt step) (view_stmt body) place
   view_stmt (stmt.Repeat' count p body place) = Repeat (view_expr count) (view_stmt body) place
+  view_stmt (stmt.ForEach' array local widens p body place) =
+      ForEach (view_expr array) local widens (view_stmt body) place
   view_stmt (stmt.Break place) = Break place
   view_stmt (stmt.Continue place) = Continue place
   view_stmt (stmt.Return value place) = Return (view_expr value) place

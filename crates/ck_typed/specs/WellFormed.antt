@@ -171,6 +171,18 @@ AreMade program (elem.Class c) = c < length program.classes
 AreMade program (elem.Unit k) = IsMade k
 AreMade program _ = ⊥
 
+-- a constructor takes an object of this kind, and then these arguments
+abbrev pub Constructs : Program → (fun : ℕ) → (object : Kind) → (arguments : List Kind → Type 0) → Type 0
+Constructs program f k arguments =
+    FoundWhere (slice_get program.funs f)
+    (λ fn. (a : ℕ) × (ks : List Kind) × (params_of fn ≡ One (elem.Class a) ∷ ks)
+    × Stands program.classes k (One (elem.Class a)) × arguments ks)
+
+-- where there is one, it takes an object of this type and nothing else
+abbrev pub ConstructsEach : Program → Elem → Option ℕ → Type 0
+ConstructsEach program e None = Unit {0}
+ConstructsEach program e (Some f) = Constructs program f (One e) (λ ks. ks ≡ [])
+
 -- what has no operand gives this kind
 abbrev pub LeafGives : OfNone → Kind → Type 0
 LeafGives (leaf.Int n) k = k ≡ One elem.Int
@@ -279,8 +291,12 @@ abbrev mutual
       IsAt program locals at address k × (k ≡ One elem.Int)
   HasKind program locals (tree.New c place) k =
       (c < length program.classes) × (k ≡ One (elem.Class c))
-  HasKind program locals (tree.NewObjects e n place) k =
-      AreMade program e × Supplies program (HasKind program locals n) (One elem.Int) × (k ≡ Row e)
+  HasKind program locals (tree.NewObjects e n constructor place) k =
+      AreMade program e × Supplies program (HasKind program locals n) (One elem.Int)
+      × ConstructsEach program e constructor × (k ≡ Row e)
+  HasKind program locals (tree.Construct o f arguments place) k =
+      HasKind program locals o k
+      × Constructs program f k (HaveKinds program locals arguments)
   HasKind program locals (tree.CallOf o f arguments place) k =
       ((j : Kind) × HasKind program locals o j)
       × Calls program f (HaveKinds program locals arguments) k
@@ -320,6 +336,18 @@ abbrev mutual
 
 -- statements ------------------------------------------------------------------------------------
 
+-- an item of this kind is bound to a local of that one: as it is, or an int as a float
+abbrev pub Binds : List Class → (widens : Bool) → (item local : Kind) → Type 0
+Binds classes false item k = Stands classes item k
+Binds classes true item k = (item ≡ One elem.Int) × (k ≡ One elem.Float)
+
+-- the items of an array are bound to a local
+abbrev pub BindsItems : Program → (locals : List Kind) → (local : ℕ) → (widens : Bool) →
+    (array : Kind → Type 0) → Type 0
+BindsItems program locals i widens array =
+    (j : Kind) × (item : Kind) × Supplies program array j × HasItems j item
+    × FoundWhere (slice_get locals i) (Binds program.classes widens item)
+
 -- a condition is an int
 abbrev pub IsTest : Program → (locals : List Kind) → Expr → Type 0
 IsTest program locals e = Supplies program (HasKind program locals e) (One elem.Int)
@@ -349,6 +377,9 @@ abbrev mutual
       × IsFine program locals result true body
   IsFine program locals result in_loop (tree.Repeat n body place) =
       IsTest program locals n × IsFine program locals result true body
+  IsFine program locals result in_loop (tree.ForEach a i widens body place) =
+      BindsItems program locals i widens (HasKind program locals a)
+      × IsFine program locals result true body
   IsFine program locals result in_loop (tree.Break place) = IsTrue in_loop
   IsFine program locals result in_loop (tree.Continue place) = IsTrue in_loop
   IsFine program locals result in_loop (tree.Return e place) =
@@ -389,7 +420,9 @@ abbrev mutual
   ExprLies files (tree.Postfix direction at address place) =
       ExprsLie files address × LiesIn files place
   ExprLies files (tree.New c place) = LiesIn files place
-  ExprLies files (tree.NewObjects e n place) = ExprLies files n × LiesIn files place
+  ExprLies files (tree.NewObjects e n constructor place) = ExprLies files n × LiesIn files place
+  ExprLies files (tree.Construct o f arguments place) =
+      ExprLies files o × ExprsLie files arguments × LiesIn files place
   ExprLies files (tree.CallOf o f arguments place) =
       ExprLies files o × ExprsLie files arguments × LiesIn files place
   ExprLies files (tree.SporkOf o f arguments place) =
@@ -418,6 +451,8 @@ abbrev mutual
       StmtLies files start × StmtLies files step × StmtLies files body × LiesIn files place
   StmtLies files (tree.Repeat n body place) =
       ExprLies files n × StmtLies files body × LiesIn files place
+  StmtLies files (tree.ForEach a i widens body place) =
+      ExprLies files a × StmtLies files body × LiesIn files place
   StmtLies files (tree.Break place) = LiesIn files place
   StmtLies files (tree.Continue place) = LiesIn files place
   StmtLies files (tree.Return e place) = ExprLies files e × LiesIn files place

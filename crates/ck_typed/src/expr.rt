@@ -122,10 +122,20 @@ pub enum TypedExpr {
         class: u32,
         place: Place,
     },
-    /// A new array of so many new objects: a class, or unit generators of a kind.
+    /// A new array of so many new objects: a class, or unit generators of a kind. Where there is a
+    /// constructor, each object is made by it, without arguments.
     NewObjects {
         elem: Elem,
         size: Box<TypedExpr>,
+        constructor: Option<u32>,
+        place: Place,
+    },
+    /// A new object with arguments: the object is made, and then the constructor is called on it,
+    /// a function by its number.
+    Construct {
+        object: Box<TypedExpr>,
+        fun: u32,
+        arguments: List<TypedExpr>,
         place: Place,
     },
     /// A call of a static function that is named through a value, which is dropped.

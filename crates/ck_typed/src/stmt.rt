@@ -62,6 +62,15 @@ pub enum TypedStmt {
         body: Box<TypedStmt>,
         place: Place,
     },
+    /// `for (x : array) body`: the items from the first on, each bound to the local x of this
+    /// number. `widens` says that the items are ints and x is a float.
+    ForEach {
+        array: TypedExpr,
+        local: u32,
+        widens: bool,
+        body: Box<TypedStmt>,
+        place: Place,
+    },
     /// `break;`
     Break {
         place: Place,

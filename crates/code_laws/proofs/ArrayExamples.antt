@@ -60,7 +60,7 @@ item x i = Variadic (variadic_op.Read Item) (two x i) here
 -- C xs[2]; [[1, 2], [3, 4]] @=> int g[][]; g[1] << 5; 100 +=> g[1][2]; return xs[1].v + g[1][2];
 abbrev main_body : Stmt
 main_body = Block (
-    more_stmts (Simple (Assign (NewObjects (elem.Class 2) (number 2) here) (Local 0) no_exprs here)
+    more_stmts (Simple (Assign (NewObjects (elem.Class 2) (number 2) None here) (Local 0) no_exprs here)
     here) (
     more_stmts (Simple (Assign (Variadic (variadic_op.ArrayOfRows elem.Int) (two
     (Variadic (variadic_op.Array elem.Int) (two (number 1) (number 2)) here)
@@ -116,7 +116,7 @@ abbrev here_does : Instr → Step
 here_does i = at i here
 
 -- the code of so many objects: a loop, whose turn comes first
-so_many : expr_code classes [] 0 (NewObjects (elem.Class 2) (number 2) here)
+so_many : expr_code classes [] 0 (NewObjects (elem.Class 2) (number 2) None here)
     ≡ map here_does (code.Int (pos 2) ∷ code.Row (elem.Class 2) ∷ code.Int (pos 0)
     ∷ code.Each 11 ∷ code.Turn ∷ code.New 2 ∷ code.Dup ∷ code.Call 1 ∷ code.Drop ∷ code.Fill
     ∷ code.Jump 3 ∷ [])
@@ -203,7 +203,7 @@ fine_main = record {
   body = (
     (
       Row (elem.Class 2),
-      (refl, (Row (elem.Class 2), (omega arith, (int, refl, refl), refl), refl)),
+      (refl, (Row (elem.Class 2), (omega arith, (int, refl, refl), tt, refl), refl)),
     ),
     (
       (

@@ -9,7 +9,7 @@ use Rattle.ck_values.specs.declared.kind.Kind.TheVariants.{Null as NullKind, One
 use Rattle.ck_values.specs.declared.trap.Place.{Place}
 use Rattle.ck_typed.specs.declared.class.Class.{Class}
 use Rattle.ck_typed.specs.Standing.{Stands}
-use Rattle.ck_typed.specs.Tree.{Expr, Exprs, Stmt, Stmts, no_stmts, more_stmts, Simple, Block, Print, If, Loop, LoopLast, For, ForEver, Repeat, Break, Continue, Return, Fun as TypedFun, Program}
+use Rattle.ck_typed.specs.Tree.{Expr, Exprs, Stmt, Stmts, no_stmts, more_stmts, Simple, Block, Print, If, Loop, LoopLast, For, ForEver, Repeat, ForEach, Break, Continue, Return, Fun as TypedFun, Program}
 use Rattle.ck_typed.specs.WellFormed.{IsValueKind, HasKind, IsTest, IsFine, AreFine, IsWellFormed}
 use Rattle.ck_values.specs.declared.operator.Op1.TheVariants.{NotInt}
 use Rattle.ck_code.specs.declared.instr.Instr.TheVariants.{Jump, JumpZero, Drop, Op1}
@@ -193,6 +193,7 @@ module _ (program : Program) (fine : IsWellFormed program) (locals : List Kind) 
             starts under start in_loop h.0 p hs.0 hs.1.0
         starts under (Repeat count body place) in_loop h p placed end =
             first count h.0.0 h.0.1 under p (cut count h.0.0 h.0.1 under p _ placed).0
+        starts under (ForEach array local widens body place) in_loop h p placed end = end
         starts under (Break place) in_loop h p placed end = placed.0
         starts under (Continue place) in_loop h p placed end = placed.0
         starts under (Return e place) in_loop h p placed end =
@@ -454,6 +455,7 @@ module _ (program : Program) (fine : IsWellFormed program) (locals : List Kind) 
                 ),
               ),
             )
+        stmt_fine under (ForEach array local widens body place) in_loop h shaped out again p leave more placed end = tt
         stmt_fine under (Break place) in_loop h shaped out again p leave more placed end =
             ((under, placed.0, reached out under (leave h)), tt)
         stmt_fine under (Continue place) in_loop h shaped out again p leave more placed end =

@@ -27,7 +27,7 @@ use Rattle.ck_typed.specs.declared.operation.Binary.{Binary as OfTwo}
 use Rattle.ck_typed.specs.declared.operation.Binary.TheVariants as binary_op
 use Rattle.ck_typed.specs.declared.operation.Variadic.{Variadic as OfMany}
 use Rattle.ck_typed.specs.declared.operation.Variadic.TheVariants as variadic
-use Rattle.ck_typed.specs.Tree.{Expr, Exprs, no_exprs, more_exprs, Leaf, Text as TextLiteral, Unary, Binary, Variadic, And, Or, Choice, Assign, AssignDeclared, Update, Prefix, Postfix, New as Making, NewObjects, CallOf, SporkOf, Program}
+use Rattle.ck_typed.specs.Tree.{Expr, Exprs, no_exprs, more_exprs, Leaf, Text as TextLiteral, Unary, Binary, Variadic, And, Or, Choice, Assign, AssignDeclared, Update, Prefix, Postfix, New as Making, NewObjects, Construct, CallOf, SporkOf, Program}
 use Rattle.ck_code.specs.declared.instr.Instr.TheVariants.{Call, Virtual, Native, Print, Spork, Text, Grid, Each, Turn, Fill, Jump}
 use Rattle.ck_code.specs.declared.code.CodeParts.{CodeParts}
 use Rattle.ck_code.proofs.Natives.{Given, KeepsRest, native_keeps}
@@ -627,7 +627,7 @@ module _ (code : CodeParts) (program : Program) (tables : code.classes ≡ progr
         next (does u.1.0) (after_try _ _ _ (does u.1.1.0) (λ v d. next d (here v pt2 le2))))))
     eval_lands (Making c place) shaped k p lt ops pt le has =
         new_lands c place k p ops pt lt shaped le has
-    eval_lands (NewObjects (elem.Class c) size place) shaped k p lt ops pt le has =
+    eval_lands (NewObjects (elem.Class c) size constructor place) shaped k p lt ops pt le has =
         let h = split_expr classes (texts_of program) code f size p _ has in
         let round = expr_end classes p size + 1 + 1 in
         let bodies = bodies_of program.classes c in
@@ -639,7 +639,7 @@ module _ (code : CodeParts) (program : Program) (tables : code.classes ≡ progr
         (each_lands c place round shaped.1 h.1.1.1.0 h.1.1.1.1.0 (h.1.1.1.1.1.0, h2.0) h2.1.0
         h2.1.1.0 bound k lt (omega arith) (AnInt (pos 0)) made.reference ops
         (with_store pt1 made.store) le1))))
-    eval_lands (NewObjects (elem.Unit kind) size place) shaped k p lt ops pt le has =
+    eval_lands (NewObjects (elem.Unit kind) size constructor place) shaped k p lt ops pt le has =
         let h = split_expr classes (texts_of program) code f size p _ has in
         let round = expr_end classes p size + 1 + 1 in
         then (eval_lands size shaped k p lt ops pt le h.0) (λ x pt1 le1.
@@ -647,6 +647,7 @@ module _ (code : CodeParts) (program : Program) (tables : code.classes ≡ progr
         (units_land code program n bound call f rest kind place round h.1.1.1.0 h.1.1.1.1.0
         h.1.1.1.1.1.0 h.1.1.1.1.1.1.0 h.1.1.1.1.1.1.1.0 bound k lt (AnInt (pos 0))
         made.reference ops (with_store pt1 made.store) le1))))
+    eval_lands (Construct o g arguments place) shaped k p lt ops pt le has = eval_lands o shaped k p lt ops pt le has
     eval_lands (CallOf o g arguments place) shaped k p lt ops pt le has =
         let h = split_expr classes (texts_of program) code f o p _ has in
         let m = expr_end classes p o + 1 in

@@ -3,7 +3,7 @@ use Rattle.std.proofs.Common.{◌≡◌, ℕ, ◌+◌, ◌<◌, List, ◌∷◌,
 use Rattle.ck_values.specs.Datum.{Datum}
 use Rattle.ck_values.specs.declared.trap.Place.{Place}
 use Rattle.ck_typed.specs.declared.class.Class.{Class}
-use Rattle.ck_typed.specs.Tree.{Expr, Stmt, Stmts, no_stmts, more_stmts, Simple, Block, Print as Printing, If, Loop, LoopLast, For, ForEver, Repeat, Break, Continue, Return as Returning, Program}
+use Rattle.ck_typed.specs.Tree.{Expr, Stmt, Stmts, no_stmts, more_stmts, Simple, Block, Print as Printing, If, Loop, LoopLast, For, ForEver, Repeat, ForEach, Break, Continue, Return as Returning, Program}
 use Rattle.ck_code.specs.declared.code.CodeParts.{CodeParts}
 use Rattle.ck_code.specs.Machine.{Frame, frame}
 use Rattle.ck_meaning.specs.Outcome.{Point}
@@ -144,6 +144,7 @@ module _ (code : CodeParts) (program : Program) (tables : code.classes ≡ progr
         h2.1.1.1.1.0
         (λ left k lt pt le. exec_lands body true shaped.1 (between + 1 + 1 + 1) between k first lt
         (left ∷ ops) pt le h2.0) bound k lt (omega arith) left pt1 le1)
+    exec_lands (ForEach array local widens body place) in_loop shaped out again k p lt ops pt le has = here tt pt le
     exec_lands (Break place) in_loop shaped out again k p lt ops pt le has =
         record { so = (frame f out pt.locals ops ∷ rest, (shaped, refl), goes (does has.0), le) }
     exec_lands (Continue place) in_loop shaped out again k p lt ops pt le has =

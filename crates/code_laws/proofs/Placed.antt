@@ -5,7 +5,7 @@ use Rattle.ck_values.specs.declared.kind.Elem.TheVariants as elem
 use Rattle.ck_values.specs.declared.kind.Kind.{Kind}
 use Rattle.ck_typed.specs.declared.class.Class.{Class}
 use Rattle.ck_typed.specs.declared.expr.Spot.{Spot}
-use Rattle.ck_typed.specs.Tree.{Expr, Exprs, no_exprs, more_exprs, Leaf, Text, Unary, Binary, Variadic, And, Or, Choice, Assign, AssignDeclared, Update, Prefix, Postfix, New as Making, NewObjects, CallOf, SporkOf, Program}
+use Rattle.ck_typed.specs.Tree.{Expr, Exprs, no_exprs, more_exprs, Leaf, Text, Unary, Binary, Variadic, And, Or, Choice, Assign, AssignDeclared, Update, Prefix, Postfix, New as Making, NewObjects, Construct, CallOf, SporkOf, Program}
 use Rattle.code_laws.proofs.Parts.{operand_of, two_of, many_of}
 use Rattle.ck_typed.specs.WellFormed.{HasKind, IsWellFormed}
 use Rattle.ck_code.specs.Verified.{Places, AreAt}
@@ -80,15 +80,16 @@ module _ (program : Program) (fine : IsWellFormed program) (locals : List Kind) 
       first (Prefix direction spot address place) k h under p placed = placed.0
       first (Postfix direction spot address place) k h under p placed = placed.0
       first (Making c place) k h under p placed = placed.0
-      first (NewObjects (elem.Class c) n place) k h under p placed =
+      first (NewObjects (elem.Class c) n constructor place) k h under p placed =
           first n h.1.0 h.1.1 under p (cut n h.1.0 h.1.1 under p _ placed).0
-      first (NewObjects (elem.Unit kind) n place) k h under p placed =
+      first (NewObjects (elem.Unit kind) n constructor place) k h under p placed =
           first n h.1.0 h.1.1 under p (cut n h.1.0 h.1.1 under p _ placed).0
+      first (Construct o f arguments place) k h under p placed = first o k h.0 under p placed
       first (CallOf o f arguments place) k h under p placed =
           first o h.0.0 h.0.1 under p (cut o h.0.0 h.0.1 under p _ placed).0
       first (SporkOf o f arguments place) k h under p placed =
           first o h.0.0 h.0.1 under p (cut o h.0.0 h.0.1 under p _ placed).0
-      first (NewObjects _ n place) k h under p placed = absurd h.0
+      first (NewObjects _ n constructor place) k h under p placed = absurd h.0
 
       pub args_first : (args : Exprs) (js : List Kind) (h : AllHave program locals args js)
           (under : List Kind) (p : ℕ) → Placed p (args_shapes program fine locals under args js h)

@@ -10,7 +10,7 @@ use Rattle.ck_meaning.specs.Meaning.{step_of}
 use Rattle.ck_typed.specs.declared.class.Class.{Class}
 use Rattle.ck_store.specs.Objects.{bodies_of}
 use Rattle.ck_typed.specs.Standing.{Stands}
-use Rattle.ck_typed.specs.Tree.{Expr, Exprs, no_exprs, more_exprs, Leaf, Text, Unary, Binary, Variadic, And, Or, Choice, Assign, AssignDeclared, Update, Prefix, Postfix, New as Making, NewObjects, CallOf, SporkOf, Fun as TypedFun, Program}
+use Rattle.ck_typed.specs.Tree.{Expr, Exprs, no_exprs, more_exprs, Leaf, Text, Unary, Binary, Variadic, And, Or, Choice, Assign, AssignDeclared, Update, Prefix, Postfix, New as Making, NewObjects, Construct, CallOf, SporkOf, Fun as TypedFun, Program}
 use Rattle.ck_typed.specs.WellFormed.{params_of, HasKind, IsWellFormed}
 use Rattle.ck_code.specs.declared.instr.Instr.TheVariants.{Jump, JumpZero, Call, Spork}
 use Rattle.ck_code.specs.declared.code.Fun.{Fun}
@@ -355,22 +355,24 @@ module _ (program : Program) (fine : IsWellFormed program) (locals : List Kind) 
               (under, placed.0, (h.0, bodies_first c under bodies are (p + 1) placed.1 last)),
               bodies_code_fine c place under bodies are (p + 1) placed.1 last,
             )
-        expr_fine (NewObjects (ClassElem c) n place) k h shaped under p placed end =
+        expr_fine (NewObjects (ClassElem c) n constructor place) k h shaped under p placed end =
             let q = expr_end classes p n in
             let cn = cut n h.1.0 h.1.1 under p _ placed in
             let last = bodies_end (q + 1 + 1 + 1 + 1 + 1) (bodies_of program.classes c) + 1 + 1 in
             join_expr n _ p
             (expr_fine n h.1.0 h.1.1 shaped.0 under p cn.0 (reached q (h.1.0 ∷ under) cn.1.0))
             (calling.objects_fine program fine locals places funs typing fn f at_locals calls c
-            place h.1.0 under q h.0 h.1.2 cn.1 (same_on last k (Row (ClassElem c)) under h.2 end))
-        expr_fine (NewObjects (UnitElem kind) n place) k h shaped under p placed end =
+            place h.1.0 under q h.0 h.1.2 cn.1 (same_on last k (Row (ClassElem c)) under h.3 end))
+        expr_fine (NewObjects (UnitElem kind) n constructor place) k h shaped under p placed end =
             let q = expr_end classes p n in
             let cn = cut n h.1.0 h.1.1 under p _ placed in
             let last = q + 1 + 1 + 1 + 1 + 1 + 1 + 1 in
             join_expr n _ p
             (expr_fine n h.1.0 h.1.1 shaped under p cn.0 (reached q (h.1.0 ∷ under) cn.1.0))
             (units.units_fine program fine locals places funs typing fn f at_locals kind place
-            h.1.0 under q h.0 h.1.2 cn.1 (same_on last k (Row (UnitElem kind)) under h.2 end))
+            h.1.0 under q h.0 h.1.2 cn.1 (same_on last k (Row (UnitElem kind)) under h.3 end))
+        expr_fine (Construct o g arguments place) k h shaped under p placed end =
+            expr_fine o k h.0 shaped under p placed end
         expr_fine (CallOf o g arguments place) k h shaped under p placed end =
             let i = h.0.0 in
             let m = expr_end classes p o in
@@ -411,7 +413,7 @@ module _ (program : Program) (fine : IsWellFormed program) (locals : List Kind) 
                   (spork_fine g place callee.0 a.kinds under q callee.1 a.stand c.1.0
                   (same_on (q + 1) k (One ShredElem) under h.2 end)),
             )
-        expr_fine (NewObjects _ n place) k h shaped under p placed end = absurd h.0
+        expr_fine (NewObjects _ n constructor place) k h shaped under p placed end = absurd h.0
 
         pub args_fine : (args : Exprs) (js : List Kind) (h : AllHave program locals args js)
             → AllShaped program args → (under : List Kind) (p : ℕ) → Placed p (args_shapes program fine locals under args js h)

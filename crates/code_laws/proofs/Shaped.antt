@@ -3,7 +3,7 @@ use Rattle.std.proofs.Common.{◌≡◌, ℕ, List, [], ◌∷◌, ◌++◌, Som
 use Rattle.ck_values.specs.declared.kind.Elem.TheVariants as elem
 use Rattle.ck_values.specs.declared.kind.Kind.{Kind}
 use Rattle.ck_store.specs.Objects.{bodies_of}
-use Rattle.ck_typed.specs.Tree.{Expr, Exprs, no_exprs, more_exprs, Leaf, Text, Unary, Binary, Variadic, And, Or, Choice, Assign, AssignDeclared, Update, Prefix, Postfix, New as Making, NewObjects, CallOf, SporkOf, Stmt, Stmts, no_stmts, more_stmts, Simple, Block, Print as Printing, If, Loop, LoopLast, For, ForEver, Repeat, Break, Continue, Return as Returning, Fun as TypedFun, Program}
+use Rattle.ck_typed.specs.Tree.{Expr, Exprs, no_exprs, more_exprs, Leaf, Text, Unary, Binary, Variadic, And, Or, Choice, Assign, AssignDeclared, Update, Prefix, Postfix, New as Making, NewObjects, Construct, CallOf, SporkOf, Stmt, Stmts, no_stmts, more_stmts, Simple, Block, Print as Printing, If, Loop, LoopLast, For, ForEver, Repeat, ForEach, Break, Continue, Return as Returning, Fun as TypedFun, Program}
 use Rattle.ck_typed.specs.WellFormed.{params_of, HasKind, IsFine, AreFine, IsWellFormed}
 use Rattle.ck_code.proofs.Standing.{found_is}
 use Rattle.ck_scheme.specs.Texts.{expr_texts, exprs_texts, stmt_texts, stmts_texts, texts_of}
@@ -84,11 +84,12 @@ module _ (program : Program) (fine : IsWellFormed program) (locals : List Kind) 
         (has_address program fine locals spot address k a, args_shaped address a.kinds a.have has)
     expr_shaped (Making c place) k h has =
         takes_object program fine c (bodies_of program.classes c) (bodies_are program fine c)
-    expr_shaped (NewObjects (elem.Class c) n place) k h has = (
+    expr_shaped (NewObjects (elem.Class c) n constructor place) k h has = (
       expr_shaped n h.1.0 h.1.1 has,
       takes_object program fine c (bodies_of program.classes c) (bodies_are program fine c),
     )
-    expr_shaped (NewObjects (elem.Unit kind) n place) k h has = expr_shaped n h.1.0 h.1.1 has
+    expr_shaped (NewObjects (elem.Unit kind) n constructor place) k h has = expr_shaped n h.1.0 h.1.1 has
+    expr_shaped (Construct o f arguments place) k h has = expr_shaped o k h.0 has
     expr_shaped (CallOf o f arguments place) k h has =
         let t = two (expr_texts o) (exprs_texts arguments) has in
         let fn = found_is (slice_get program.funs f) _ h.1 in
@@ -105,7 +106,7 @@ module _ (program : Program) (fine : IsWellFormed program) (locals : List Kind) 
           takes_arguments program fine locals f arguments fn.0 fn.1 fn.2,
           args_shaped arguments a.kinds a.have t.1,
         )
-    expr_shaped (NewObjects _ n place) k h has = absurd h.0
+    expr_shaped (NewObjects _ n constructor place) k h has = absurd h.0
 
     args_shaped : (args : Exprs) (js : List Kind) → AllHave program locals args js
         → Numbered (exprs_texts args) → AllShaped program args
@@ -156,6 +157,7 @@ module _ (program : Program) (fine : IsWellFormed program) (locals : List Kind) 
     stmt_shaped (Repeat count body place) result in_loop h has =
         let t = two (expr_texts count) (stmt_texts body) has in
         (expr_shaped count h.0.0 h.0.1 t.0, stmt_shaped body result true h.1 t.1)
+    stmt_shaped (ForEach array local widens body place) result in_loop h has = tt
     stmt_shaped (Break place) result in_loop h has = h
     stmt_shaped (Continue place) result in_loop h has = h
     stmt_shaped (Returning e place) result in_loop h has = expr_shaped e h.0 h.1 has

@@ -15,7 +15,7 @@ use Rattle.ck_typed.specs.declared.operation.Binary.{Binary as OfTwo}
 use Rattle.ck_typed.specs.declared.operation.Binary.TheVariants as binary
 use Rattle.ck_typed.specs.declared.operation.Variadic.{Variadic as OfMany}
 use Rattle.ck_typed.specs.declared.operation.Variadic.TheVariants as variadic
-use Rattle.ck_typed.specs.Tree.{Expr, Exprs, no_exprs, more_exprs, Leaf, Text, Unary, Binary, Variadic, And, Or, Choice, Assign, AssignDeclared, Update, Prefix, Postfix, New, NewObjects, CallOf, SporkOf, Stmt, Stmts, no_stmts, more_stmts, Simple, Block, Print, If, Loop, LoopLast, For, ForEver, Repeat, Break, Continue, Return, Fun as TypedFun, Program}
+use Rattle.ck_typed.specs.Tree.{Expr, Exprs, no_exprs, more_exprs, Leaf, Text, Unary, Binary, Variadic, And, Or, Choice, Assign, AssignDeclared, Update, Prefix, Postfix, New, NewObjects, Construct, CallOf, SporkOf, Stmt, Stmts, no_stmts, more_stmts, Simple, Block, Print, If, Loop, LoopLast, For, ForEver, Repeat, ForEach, Break, Continue, Return, Fun as TypedFun, Program}
 
 -- the function is there, and takes so many arguments
 abbrev pub Takes : Option TypedFun → ℕ → Type 0
@@ -71,9 +71,10 @@ module _ (program : Program) where
     Shaped (Postfix direction spot address place) =
         HasAddress spot (count_of address) × AllShaped address
     Shaped (New c place) = TakeObject program (bodies_of program.classes c)
-    Shaped (NewObjects (elem.Class c) n place) =
+    Shaped (NewObjects (elem.Class c) n constructor place) =
         Shaped n × TakeObject program (bodies_of program.classes c)
-    Shaped (NewObjects (elem.Unit kind) n place) = Shaped n
+    Shaped (NewObjects (elem.Unit kind) n constructor place) = Shaped n
+    Shaped (Construct o f arguments place) = Shaped o
     Shaped (CallOf o f arguments place) =
         Shaped o × Takes (slice_get program.funs f) (count_of arguments) × AllShaped arguments
     Shaped (SporkOf o f arguments place) =
@@ -99,6 +100,7 @@ module _ (program : Program) where
     ShapedStmt in_loop (ForEver start step body place) =
         ShapedStmt in_loop start × ShapedStmt true step × ShapedStmt true body
     ShapedStmt in_loop (Repeat count body place) = Shaped count × ShapedStmt true body
+    ShapedStmt in_loop (ForEach array local widens body place) = Unit {0}
     ShapedStmt in_loop (Break place) = IsTrue in_loop
     ShapedStmt in_loop (Continue place) = IsTrue in_loop
     ShapedStmt in_loop (Return e place) = Shaped e
@@ -125,6 +127,7 @@ module _ (program : Program) (locals : List Kind) (result : Kind) where
     in_a_loop (ForEver start step body place) in_loop h =
         (in_a_loop start in_loop h.0, in_a_loop step in_loop h.1, h.2)
     in_a_loop (Repeat count body place) in_loop h = h
+    in_a_loop (ForEach array local widens body place) in_loop h = h
     in_a_loop (Break place) in_loop h = refl
     in_a_loop (Continue place) in_loop h = refl
     in_a_loop (Return e place) in_loop h = h

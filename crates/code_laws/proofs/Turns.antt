@@ -18,7 +18,7 @@ use Rattle.ck_typed.specs.declared.operation.Binary.{Binary as OfTwo}
 use Rattle.ck_typed.specs.declared.operation.Binary.TheVariants as op2
 use Rattle.ck_typed.specs.declared.operation.Variadic.{Variadic as OfMany}
 use Rattle.ck_typed.specs.declared.operation.Variadic.TheVariants as opn
-use Rattle.ck_typed.specs.Tree.{Expr, Exprs, no_exprs, more_exprs, Leaf, Text, Unary, Binary, Variadic, And, Or, Choice, Assign, AssignDeclared, Update, Prefix, Postfix, New as Making, NewObjects, CallOf, SporkOf, Stmt, Stmts, no_stmts, more_stmts, Simple, Block, Print as Printing, If, Loop, LoopLast, For, ForEver, Repeat, Break, Continue, Return, Program}
+use Rattle.ck_typed.specs.Tree.{Expr, Exprs, no_exprs, more_exprs, Leaf, Text, Unary, Binary, Variadic, And, Or, Choice, Assign, AssignDeclared, Update, Prefix, Postfix, New as Making, NewObjects, Construct, CallOf, SporkOf, Stmt, Stmts, no_stmts, more_stmts, Simple, Block, Print as Printing, If, Loop, LoopLast, For, ForEver, Repeat, ForEach, Break, Continue, Return, Program}
 use Rattle.ck_code.specs.declared.instr.Instr.TheVariants.{Turn}
 use Rattle.ck_code.specs.declared.code.Step.{Step}
 use Rattle.ck_code.specs.Verified.{JumpsTo}
@@ -217,7 +217,7 @@ module _ (classes : List Class) (texts : List (List ℕ)) (w : List Step) where
     expr_piece (Making c place) p h =
         both p (p + 1) _ (plain w false 0 0 p (λ to j. one_jump w p to _ h.0 j))
         (bodies_piece (bodies_of classes c) place (p + 1) h.1)
-    expr_piece (NewObjects (elem.Class c) n place) p h =
+    expr_piece (NewObjects (elem.Class c) n constructor place) p h =
         let hn = cut n _ p h in
         let q = expr_end classes p n in
         let round = q + 1 + 1 in
@@ -241,7 +241,7 @@ module _ (classes : List Class) (texts : List (List ℕ)) (w : List Step) where
         (λ to j. one_jump w round to _ hn.1.1.1.0 j) (turn_at (round + 1) place hn.1.1.1.1.0)
         (λ to j. one_jump w (round + 1) to _ hn.1.1.1.1.0 j)
         (λ to j. one_jump w last to _ hb.1.1.0 j))))
-    expr_piece (NewObjects (elem.Unit kind) n place) p h =
+    expr_piece (NewObjects (elem.Unit kind) n constructor place) p h =
         let hn = cut n _ p h in
         let q = expr_end classes p n in
         let round = q + 1 + 1 in
@@ -260,6 +260,7 @@ module _ (classes : List Class) (texts : List (List ℕ)) (w : List Step) where
         (λ to j. one_jump w round to _ hn.1.1.1.0 j) (turn_at (round + 1) place hn.1.1.1.1.0)
         (λ to j. one_jump w (round + 1) to _ hn.1.1.1.1.0 j)
         (λ to j. one_jump w last to _ hn.1.1.1.1.1.1.1.0 j))))
+    expr_piece (Construct o f arguments place) p h = expr_piece o p h
     expr_piece (CallOf o f arguments place) p h =
         let co = cut o _ p h in
         let m = expr_end classes p o in
@@ -416,6 +417,7 @@ module _ (classes : List Class) (texts : List (List ℕ)) (w : List Step) where
           (λ to j. one_jump w (m + 1) to _ hc.1.1.1.1.1.0 j)
           (λ to j. one_jump w last to _ hb.1.1.1.0 j))
           (still in_loop out again e _ hb.1.1.1.1.0 (λ to j. j)))
+      stmt_piece (ForEach array local widens body place) in_loop shaped out again p h = nothing w in_loop out again p
       stmt_piece (Break place) in_loop shaped out again p h =
           subst (λ b. Piece w b out again p (p + 1)) (sym shaped)
           (breaks w out again p (λ to j. one_jump w p to _ h.0 j))

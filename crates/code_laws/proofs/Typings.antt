@@ -18,7 +18,7 @@ use Rattle.ck_typed.specs.declared.operation.Binary.{Binary as OfTwo}
 use Rattle.ck_typed.specs.declared.operation.Binary.TheVariants as op2
 use Rattle.ck_typed.specs.declared.operation.Variadic.{Variadic as OfMany}
 use Rattle.ck_typed.specs.declared.operation.Variadic.TheVariants as opn
-use Rattle.ck_typed.specs.Tree.{Expr, Exprs, no_exprs, more_exprs, Leaf, Text, Unary, Binary, Variadic, And, Or, Choice, Assign, AssignDeclared, Update, Prefix, Postfix, New as Making, NewObjects, CallOf, SporkOf, Stmt, Stmts, no_stmts, more_stmts, Simple, Block, Print, If, Loop, LoopLast, For, ForEver, Repeat, Break, Continue, Return, Program}
+use Rattle.ck_typed.specs.Tree.{Expr, Exprs, no_exprs, more_exprs, Leaf, Text, Unary, Binary, Variadic, And, Or, Choice, Assign, AssignDeclared, Update, Prefix, Postfix, New as Making, NewObjects, Construct, CallOf, SporkOf, Stmt, Stmts, no_stmts, more_stmts, Simple, Block, Print, If, Loop, LoopLast, For, ForEver, Repeat, ForEach, Break, Continue, Return, Program}
 use Rattle.ck_typed.specs.WellFormed.{params_of, HasKind, IsTest, IsFine, AreFine, IsWellFormed}
 use Rattle.ck_code.proofs.Standing.{found_is}
 use Rattle.ck_scheme.specs.Scheme.{bodies_end, spot_end, expr_end, args_end, test_end, stmt_end, block_end}
@@ -170,17 +170,18 @@ module _ (program : Program) (fine : IsWellFormed program) (locals : List Kind) 
         ++ ((int ∷ under) ∷ (int ∷ int ∷ under) ∷ []))))
     expr_shapes under (Making c place) k h =
         under ∷ bodies_shapes c under (bodies_of program.classes c) (bodies_are program fine c)
-    expr_shapes under (NewObjects (elem.Class c) n place) k h =
+    expr_shapes under (NewObjects (elem.Class c) n constructor place) k h =
         let array : Kind = Row (ClassElem c) in
         let on : List Kind = One IntElem ∷ array ∷ under in
         expr_shapes under n h.1.0 h.1.1 ++ ((h.1.0 ∷ under) ∷ (array ∷ under) ∷ on ∷ on ∷ on
         ∷ (bodies_shapes c on (bodies_of program.classes c) (bodies_are program fine c)
         ++ ((One (ClassElem c) ∷ on) ∷ on ∷ [])))
-    expr_shapes under (NewObjects (elem.Unit kind) n place) k h =
+    expr_shapes under (NewObjects (elem.Unit kind) n constructor place) k h =
         let array : Kind = Row (elem.Unit kind) in
         let on : List Kind = One IntElem ∷ array ∷ under in
         expr_shapes under n h.1.0 h.1.1 ++ ((h.1.0 ∷ under) ∷ (array ∷ under) ∷ on ∷ on
         ∷ on ∷ (One (elem.Unit kind) ∷ on) ∷ on ∷ [])
+    expr_shapes under (Construct o f arguments place) k h = expr_shapes under o k h.0
     expr_shapes under (CallOf o f arguments place) k h =
         let fn = found_is (slice_get program.funs f) _ h.1 in
         let a = operands_of program locals arguments (params_of fn.0) fn.2.0 in
@@ -191,7 +192,7 @@ module _ (program : Program) (fine : IsWellFormed program) (locals : List Kind) 
         let a = operands_of program locals arguments (params_of fn.0) fn.2 in
         expr_shapes under o h.0.0 h.0.1 ++ ((h.0.0 ∷ under)
         ∷ (args_shapes under arguments a.kinds a.have ++ kinds_on a.kinds under ∷ []))
-    expr_shapes under (NewObjects _ n place) k h = []
+    expr_shapes under (NewObjects _ n constructor place) k h = []
 
     pub args_shapes : (under : List Kind) (args : Exprs) (js : List Kind)
         → AllHave program locals args js → List (List Kind)
@@ -249,6 +250,7 @@ module _ (program : Program) (fine : IsWellFormed program) (locals : List Kind) 
           ∷ (int ∷ int ∷ int ∷ under) ∷ (int ∷ int ∷ under) ∷ (int ∷ under)
           ∷ (stmt_shapes (int ∷ under) body true h.1
           ++ ((int ∷ under) ∷ (int ∷ int ∷ under) ∷ (int ∷ under) ∷ (int ∷ under) ∷ [])))
+      stmt_shapes under (ForEach array local widens body place) in_loop h = []
       stmt_shapes under (Break place) in_loop h = under ∷ []
       stmt_shapes under (Continue place) in_loop h = under ∷ []
       stmt_shapes under (Return e place) in_loop h =
@@ -380,7 +382,7 @@ module _ (program : Program) (fine : IsWellFormed program) (locals : List Kind) 
           bodies_shapes_length c under (bodies_of program.classes c) (bodies_are program fine c)
               (p + 1),
         )
-    shapes_length (NewObjects (elem.Class c) n place) k h under p =
+    shapes_length (NewObjects (elem.Class c) n constructor place) k h under p =
         let first = expr_end classes p n + 1 + 1 + 1 + 1 + 1 in
         omega (
           arith,
@@ -389,8 +391,9 @@ module _ (program : Program) (fine : IsWellFormed program) (locals : List Kind) 
           bodies_shapes_length c (One IntElem ∷ Row (ClassElem c) ∷ under)
               (bodies_of program.classes c) (bodies_are program fine c) first,
         )
-    shapes_length (NewObjects (elem.Unit kind) n place) k h under p =
+    shapes_length (NewObjects (elem.Unit kind) n constructor place) k h under p =
         omega (arith, length-append {A = List Kind}, shapes_length n h.1.0 h.1.1 under p)
+    shapes_length (Construct o f arguments place) k h under p = shapes_length o k h.0 under p
     shapes_length (CallOf o f arguments place) k h under p =
         let fn = found_is (slice_get program.funs f) _ h.1 in
         let a = operands_of program locals arguments (params_of fn.0) fn.2.0 in
@@ -409,7 +412,7 @@ module _ (program : Program) (fine : IsWellFormed program) (locals : List Kind) 
           shapes_length o h.0.0 h.0.1 under p,
           args_shapes_length arguments a.kinds a.have under (expr_end classes p o + 1),
         )
-    shapes_length (NewObjects _ n place) k h under p = absurd h.0
+    shapes_length (NewObjects _ n constructor place) k h under p = absurd h.0
 
     pub args_shapes_length : (args : Exprs) (js : List Kind) (h : AllHave program locals args js) (under : List Kind) (p : ℕ)
         → p + length (args_shapes under args js h) ≡ args_end classes p args
@@ -499,6 +502,7 @@ module _ (program : Program) (fine : IsWellFormed program) (locals : List Kind) 
             stmt_shapes_length (One IntElem ∷ under) body true h.1
                 (expr_end classes p count + 1 + 1 + 1 + 1 + 1),
           )
+      stmt_shapes_length under (ForEach array local widens body place) in_loop h p = omega arith
       stmt_shapes_length under (Break place) in_loop h p = refl
       stmt_shapes_length under (Continue place) in_loop h p = refl
       stmt_shapes_length under (Return e place) in_loop h p =

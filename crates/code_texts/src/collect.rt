@@ -18,9 +18,9 @@ fn collect_expr(texts: &mut Texts, alloc: Global, e: &TypedExpr) -> Result<(), M
     match e {
         TypedExpr::Leaf(..) | TypedExpr::New { .. } => Ok(()),
         TypedExpr::Text { value, .. } => texts.add(alloc, value.bytes()),
-        TypedExpr::Unary { operand: a, .. } | TypedExpr::NewObjects { size: a, .. } => {
-            collect_expr(texts, alloc, a)
-        }
+        TypedExpr::Unary { operand: a, .. }
+        | TypedExpr::NewObjects { size: a, .. }
+        | TypedExpr::Construct { object: a, .. } => collect_expr(texts, alloc, a),
         TypedExpr::Binary { left, right, .. }
         | TypedExpr::And { left, right, .. }
         | TypedExpr::Or { left, right, .. } => {
@@ -145,7 +145,7 @@ fn collect_stmt(texts: &mut Texts, alloc: Global, t: &TypedStmt) -> Result<(), M
             collect_stmt(texts, alloc, body)?;
             collect_stmt(texts, alloc, step)
         }
-        TypedStmt::Break { .. } | TypedStmt::Continue { .. } => Ok(()),
+        TypedStmt::ForEach { .. } | TypedStmt::Break { .. } | TypedStmt::Continue { .. } => Ok(()),
     }
 }
 

@@ -3,7 +3,7 @@ use Rattle.std.proofs.Common.{◌≡◌, ℕ, ◌+◌, List, [], ◌∷◌, ◌+
 use Rattle.std.specs.Prelude.{slice_set}
 use Rattle.std.proofs.Math.Seq.{set-append_seam}
 use Rattle.ck_typed.specs.declared.class.Class.{Class}
-use Rattle.ck_typed.specs.Tree.{Stmt, Stmts, no_stmts, more_stmts, Simple, Block, Print, If, Loop, LoopLast, For, ForEver, Repeat, Break, Continue, Return}
+use Rattle.ck_typed.specs.Tree.{Stmt, Stmts, no_stmts, more_stmts, Simple, Block, Print, If, Loop, LoopLast, For, ForEver, Repeat, ForEach, Break, Continue, Return}
 use Rattle.ck_code.specs.declared.code.Step.{Step}
 use Rattle.ck_code.specs.declared.instr.Instr.TheVariants.{Jump, JumpZero, Turn}
 use Rattle.ck_scheme.specs.Scheme.{at, expr_end, expr_code, stmt_end, stmt_code, block_code}
@@ -113,6 +113,7 @@ module _ (out again : ℕ) where
           behind (exits_of classes p start) (held_code p start) (whole_code p start) rest c d
           (written-exits start p c (rest ++ d) stands)
       written-exits (Repeat e body place) p c d stands = refl
+      written-exits (ForEach array local widens body place) p c d stands = refl
       written-exits (Break place) p c d stands =
           one_exit c d (at (Jump 0) place) (at (Jump out) place) p stands
       written-exits (Continue place) p c d stands =

@@ -2,7 +2,7 @@
 use Rattle.std.proofs.Common.{◌≡◌, ℕ, ◌+◌, ◌<◌, ◌≤◌, List, [], ◌∷◌, ◌++◌, Bool, true, false, All, sym, subst, arith}
 use Rattle.std.proofs.lemmas.List.Elements.{All-nil, All-cons, All-append, All-weaker}
 use Rattle.ck_typed.specs.declared.class.Class.{Class}
-use Rattle.ck_typed.specs.Tree.{Expr, Stmt, Stmts, no_stmts, more_stmts, Simple, Block, Print, If, Loop, LoopLast, For, ForEver, Repeat, Break, Continue, Return}
+use Rattle.ck_typed.specs.Tree.{Expr, Stmt, Stmts, no_stmts, more_stmts, Simple, Block, Print, If, Loop, LoopLast, For, ForEver, Repeat, ForEach, Break, Continue, Return}
 use Rattle.ck_scheme.specs.Scheme.{test_end, expr_end, stmt_end, block_end}
 use Rattle.ck_scheme.proofs.Stands.{expr_length, stmt_length, block_length}
 use Rattle.emit_code.specs.declared.jumps.Held.{Held}
@@ -67,6 +67,7 @@ module _ (classes : List Class) where
         more (exits_of classes p start) round (stmt_end classes next step + 1) le
         (exits_within start p)
     exits_within (Repeat e body place) p = none (stmt_end classes p (Repeat e body place))
+    exits_within (ForEach array local widens body place) p = none p
     exits_within (Break place) p =
         one (record { at = p; leaves = true; place = place }) (p + 1) (omega arith)
     exits_within (Continue place) p =

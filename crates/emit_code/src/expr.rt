@@ -1,5 +1,5 @@
 //! The code of expressions.
-ghost use Rattle.std.specs.Prelude.{◌≡◌, ◌+◌, [], ◌∷◌, ◌++◌, OnOk, vec_len};
+ghost use Rattle.std.specs.Prelude.{◌≡◌, ◌+◌, [], ◌∷◌, ◌++◌, None, OnOk, vec_len};
 ghost use Rattle.ck_values.specs.declared.kind.Elem.TheVariants as elem;
 ghost use Rattle.ck_code.specs.declared.instr.Instr.TheVariants.{Text as TextOf};
 ghost use Rattle.ck_scheme.specs.Scheme.{at, expr_end, expr_code, args_end, args_code};
@@ -114,17 +114,21 @@ pub(crate) fn emit_expr(code: &mut Vec<Step>, e: &TypedExpr, tables: &Tables) ->
             elem: Elem::Class(class),
             size,
             place,
+            ..
         } => emit_objects(code, *class, size, *place, tables),
         TypedExpr::NewObjects {
             elem: Elem::Unit(kind),
             size,
             place,
+            ..
         } => emit_units(code, *kind, size, *place, tables),
         // Typing makes no such array, and the scheme has no code for it.
         TypedExpr::NewObjects {
             elem: Elem::Int | Elem::Float | Elem::Dur | Elem::Time | Elem::Text | Elem::Shred,
             ..
         } => Ok(()),
+        // No constructor is called yet: a program that has one isn't run.
+        TypedExpr::Construct { object, .. } => emit_expr(code, object, tables),
         TypedExpr::CallOf {
             object,
             fun,
@@ -385,10 +389,10 @@ fn emit_objects(
 ) -> Result<(), Memory>
     ensures code { OnOk result (code.new.items ≡ code.old.items
         ++ expr_code tables.now.classes.now tables.now.texts.now (vec_len code.old)
-        (NewObjects (elem.Class class) (view_expr size.now) place)) }
+        (NewObjects (elem.Class class) (view_expr size.now) None place)) }
     ensures len { OnOk result (vec_len code.new
         ≡ expr_end tables.now.classes.now (vec_len code.old)
-        (NewObjects (elem.Class class) (view_expr size.now) place)) }
+        (NewObjects (elem.Class class) (view_expr size.now) None place)) }
 {
     emit_expr(code, size, tables)?;
     put_two(code, Instr::Row(Elem::Class(class)), Instr::Int(0), place)?;
@@ -415,10 +419,10 @@ fn emit_units(
 ) -> Result<(), Memory>
     ensures code { OnOk result (code.new.items ≡ code.old.items
         ++ expr_code tables.now.classes.now tables.now.texts.now (vec_len code.old)
-        (NewObjects (elem.Unit kind) (view_expr size.now) place)) }
+        (NewObjects (elem.Unit kind) (view_expr size.now) None place)) }
     ensures len { OnOk result (vec_len code.new
         ≡ expr_end tables.now.classes.now (vec_len code.old)
-        (NewObjects (elem.Unit kind) (view_expr size.now) place)) }
+        (NewObjects (elem.Unit kind) (view_expr size.now) None place)) }
 {
     emit_expr(code, size, tables)?;
     put_two(code, Instr::Row(Elem::Unit(kind)), Instr::Int(0), place)?;

@@ -166,6 +166,8 @@ fn emit_stmt(
         TypedStmt::Repeat { count, body, place } => {
             emit_repeat(code, count, body, *place, tables)
         }
+        // Nor is a loop over the items of an array run yet.
+        TypedStmt::ForEach { .. } => Ok(()),
         TypedStmt::Break { place } => put_exit(code, held, true, *place),
         TypedStmt::Continue { place } => put_exit(code, held, false, *place),
         TypedStmt::Return { value, place } => {

@@ -1,6 +1,6 @@
 -- What an expression stands for lies in the files of the program, and what is wrong with it stands
 -- in the file of its scope, which is also that of the scope behind it.
-use Rattle.std.proofs.Common.{◌≡◌, ◌∙◌, ℕ, ◌<◌, Bool, true, false, not, ◌&&◌, ◌||◌, if◌then◌else◌, List, [], ◌∷◌, length, Option, Some, None, refl, sym, subst}
+use Rattle.std.proofs.Common.{◌≡◌, ◌∙◌, ℕ, ◌+◌, ◌<◌, Bool, true, false, not, ◌&&◌, ◌||◌, if◌then◌else◌, List, [], ◌∷◌, length, Option, Some, None, refl, sym, subst}
 use Rattle.std.specs.Prelude.{IfSome, codes}
 use Rattle.std.specs.Str.{bytes_eq}
 use Rattle.ck_values.specs.declared.kind.Elem.{Elem}
@@ -8,13 +8,14 @@ use Rattle.ck_values.specs.declared.kind.Elem.TheVariants as elem
 use Rattle.ck_values.specs.declared.kind.Kind.{Kind}
 use Rattle.ck_values.specs.declared.kind.Kind.TheVariants.{One}
 use Rattle.ck_values.specs.declared.trap.Place.{Place}
+use Rattle.ck_syntax.specs.declared.declaration.Base.{Base}
 use Rattle.ck_syntax.specs.declared.declaration.DeclHead.{DeclHead}
 use Rattle.ck_syntax.specs.declared.operator.BinaryOp.{BinaryOp}
 use Rattle.ck_syntax.specs.declared.operator.ChuckOp.{ChuckOp}
 use Rattle.ck_syntax.specs.declared.operator.ChuckOp.TheVariants as chuck_op
 use Rattle.ck_syntax.specs.declared.operator.Constant.TheVariants as constant
 use Rattle.ck_syntax.specs.Tree as tree
-use Rattle.ck_syntax.specs.Tree.{Name, Expr, expr_line, Exprs, no_exprs, and_expr, Brackets, no_brackets, and_empty, and_size, declr}
+use Rattle.ck_syntax.specs.Tree.{Name, Expr, expr_line, Exprs, no_exprs, and_expr, Brackets, no_brackets, and_empty, and_size, Declr, declr, declr_with, declr_name}
 use Rattle.ck_typed.specs.declared.expr.Spot.{Spot}
 use Rattle.ck_typed.specs.declared.expr.Spot.TheVariants as spot
 use Rattle.ck_typed.specs.declared.operation.Unary.TheVariants as unary
@@ -26,20 +27,21 @@ use Rattle.type_rules.specs.Fitting.{is_below, kind_fits}
 use Rattle.type_rules.specs.Operators.{are_references, joined}
 use Rattle.type_rules.specs.declared.operators.Joined.{Joined}
 use Rattle.type_table.specs.Answer.{Answer, gives, refused, and_then, wrong}
-use Rattle.type_table.specs.declared.fault.FaultKind.TheVariants.{NotCallable}
+use Rattle.type_table.specs.declared.fault.FaultKind.TheVariants.{NotCallable, BadPlace}
 use Rattle.type_table.specs.declared.table.Member.{Member}
 use Rattle.type_table.specs.declared.table.Member.TheVariants as member
 use Rattle.type_table.specs.declared.table.Variable.{Variable}
 use Rattle.type_table.specs.Table.{Table, fun_of, variable_named}
-use Rattle.type_table.specs.Types.{named_by, is_unknown, is_plain, declared_kind}
+use Rattle.type_table.specs.declared.types.Named.{Named}
+use Rattle.type_table.specs.Types.{named_by, is_unknown, is_plain, written_kind}
 use Rattle.type_table.proofs.FaultFiles.{Placed, placed_then, placed_if}
 use Rattle.type_table.proofs.Ranges.{Each}
 use Rattle.check_scope.specs.Expressions as e
-use Rattle.check_scope.specs.Expressions.{Meant, Valued, AllValued, in_scope, value_of, meaning, values, sizes, typing}
-use Rattle.check_scope.specs.Denotations.{Typed, Callee, numbered, through, method, native, native_on, param, yields, exits, Declaration, Denotation, value, at, callable, declared, one, as_value, member_here}
-use Rattle.check_scope.specs.Scope.{Scope, place, is_declared, this_local, declares_globals}
+use Rattle.check_scope.specs.Expressions.{Making, with_sizes, with_arguments, Meant, Valued, AllValued, in_scope, value_of, meaning, values, sizes, typing}
+use Rattle.check_scope.specs.Denotations.{Typed, Callee, numbered, through, method, native, native_on, param, yields, exits, Declaration, Denotation, value, at, callable, a_type, declared, an_auto, is_void, one, as_value, member_here}
+use Rattle.check_scope.specs.Scope.{Scope, reach, settle, kind_now, place, is_declared, with_local, this_local, declares_globals}
 use Rattle.expr_laws.proofs.NameFiles.{TypedLies, CalleeLies, Lies, IsIn, as_value_in, name_in, member_in}
-use Rattle.expr_laws.proofs.OperationFiles.{either, taken_lies, widened_lies, fitted_lie, word_in, binary_in, prefix_in, postfix_in, dur_in, cast_in, choice_in, array_in, item_in, new_in, called_in, native_call_in, call_in, spork_in}
+use Rattle.expr_laws.proofs.OperationFiles.{taken_lies, widened_lies, fitted_lie, word_in, binary_in, prefix_in, postfix_in, dur_in, cast_in, choice_in, array_in, item_in, object_made_in, maker_in, new_in, new_with_in, called_in, native_call_in, call_in, spork_in}
 use Rattle.expr_laws.proofs.ScopeLaws.{each_and}
 
 module _ (files : ℕ) where
@@ -63,34 +65,15 @@ module _ (files : ℕ) where
 
   -- first values ----------------------------------------------------------------------------------
 
-  default_lies : (i : Elem) (p : Place) → LiesIn files p → ExprLies files (e.default_value i p)
-  default_lies (elem.Class c) p lies = lies
-  default_lies _ p lies = lies
-
   null_lies : (k : Kind) (p : Place) → LiesIn files p → ExprLies files (e.null_of k p)
   null_lies (One elem.Shred) p lies = lies
   null_lies (One _) p lies = lies
   null_lies _ p lies = lies
 
-  row_lies : (r : Bool) (i : Elem) (x : typed.Expr) (p : Place) → ExprLies files x → LiesIn files p
-      → ExprLies files (e.row_of r i x p)
-  row_lies r i x p size lies =
-      either (ExprLies files) (r || is_plain i) (typed.Unary (unary.NewRow i) x p)
-      (typed.NewObjects i x p) (size, lies) (size, lies)
-
-  first_value_lies : (r : Bool) (k : Kind) (xs : List Typed) (p : Place)
-      → Each (TypedLies files) xs → LiesIn files p → ExprLies files (e.first_value r k xs p)
-  first_value_lies true k [] p lie lies = null_lies k p lies
-  first_value_lies false (One i) [] p lie lies = default_lies i p lies
-  first_value_lies false k [] p lie lies = null_lies k p lies
-  first_value_lies r k (x ∷ []) p lie lies = row_lies r (e.elem_of k) x.expr p lie.0.0 lies
-  first_value_lies r k (x ∷ y ∷ rest) p lie lies = (lie.0.0, lie.1.0.0, lies)
-
-  declared_lies : (spot : Spot) (address : typed.Exprs) (r : Bool) (k : Kind) (xs : List Typed)
-      (p : Place) → ExprsLie files address → Each (TypedLies files) xs → LiesIn files p
-      → Lies files (e.declared_at spot address r k xs p)
-  declared_lies spot address r k xs p so lie lies =
-      (so, (first_value_lies r k xs p lie lies, so, lies))
+  -- what a first value is made of
+  abbrev pub PartsLie : Making → Type 0
+  PartsLie (with_sizes xs) = Each (TypedLies files) xs
+  PartsLie (with_arguments xs) = Each (TypedLies files) xs
 
 module _ (files : ℕ) (s : Scope) (here : s.file < files) (l : ℕ) where
   -- an answer that lies here
@@ -99,6 +82,45 @@ module _ (files : ℕ) (s : Scope) (here : s.file < files) (l : ℕ) where
 
   if_is : (c : Bool) (a b : Answer Denotation) → Is a → Is b → Is (if c then a else b)
   if_is c a b one other = placed_if (Lies files) s.file c a b one other
+
+  -- first values ----------------------------------------------------------------------------------
+
+  abbrev First : Answer typed.Expr → Type 0
+  First a = Placed (ExprLies files) s.file a
+
+  default_in : (t : Table) (i : Elem) → First (e.default_value t s l i)
+  default_in t (elem.Class c) = object_made_in files s here l t (elem.Class c) [] tt
+  default_in t (elem.Unit k) = object_made_in files s here l t (elem.Unit k) [] tt
+  default_in t elem.Int = here
+  default_in t elem.Float = here
+  default_in t elem.Dur = here
+  default_in t elem.Time = here
+  default_in t elem.Text = here
+  default_in t elem.Shred = here
+
+  row_in : (t : Table) (r : Bool) (i : Elem) (x : typed.Expr) → ExprLies files x
+      → First (e.row_of t s l r i x)
+  row_in t r i x size =
+      placed_if (ExprLies files) s.file (r || is_plain i) _ _ (size, here)
+      (placed_then (λ _. Unit {0}) (ExprLies files) s.file (e.maker_of t s l i) _
+      (maker_in files s here l t i) (λ c so. (size, here)))
+
+  first_value_in : (t : Table) (r : Bool) (k : Kind) (making : Making) → PartsLie files making
+      → First (e.first_value t s l r k making)
+  first_value_in t r k (with_arguments xs) lie =
+      object_made_in files s here l t (e.elem_of k) xs lie
+  first_value_in t true k (with_sizes []) lie = null_lies files k (place s l) here
+  first_value_in t false (One i) (with_sizes []) lie = default_in t i
+  first_value_in t false k (with_sizes []) lie = null_lies files k (place s l) here
+  first_value_in t r k (with_sizes (x ∷ [])) lie = row_in t r (e.elem_of k) x.expr lie.0.0
+  first_value_in t r k (with_sizes (x ∷ y ∷ rest)) lie = (lie.0.0, lie.1.0.0, here)
+
+  declared_at_in : (t : Table) (spot : Spot) (address : typed.Exprs) (r : Bool) (k : Kind)
+      (making : Making) → ExprsLie files address → PartsLie files making
+      → Is (e.declared_at t s l spot address r k making)
+  declared_at_in t spot address r k making so lie =
+      placed_then (ExprLies files) (Lies files) s.file (e.first_value t s l r k making) _
+      (first_value_in t r k making lie) (λ x lies. (so, (lies, so, here)))
 
   -- the chuck operator ----------------------------------------------------------------------------
 
@@ -228,19 +250,19 @@ module _ (files : ℕ) (s : Scope) (here : s.file < files) (l : ℕ) where
 
   -- members that are declared ---------------------------------------------------------------------
 
-  declared_field_in : (i : ℕ) (r : Bool) (k : Kind) (xs : List Typed) (this : Option ℕ)
-      → Each (TypedLies files) xs → Is (e.declared_field s l i r k xs this)
-  declared_field_in i r k xs None lie = refl
-  declared_field_in i r k xs (Some this) lie =
+  declared_field_in : (t : Table) (i : ℕ) (r : Bool) (k : Kind) (making : Making)
+      (this : Option ℕ) → PartsLie files making → Is (e.declared_field t s l i r k making this)
+  declared_field_in t i r k making None lie = refl
+  declared_field_in t i r k making (Some this) lie =
       let object = typed.Variadic (variadic.Read (spot.Local this)) typed.no_exprs (place s l) in
-      declared_lies files (spot.Field i) (one object) r k xs (place s l) ((tt, here), tt) lie here
+      declared_at_in t (spot.Field i) (one object) r k making ((tt, here), tt) lie
 
-  declared_member_in : (t : Table) (h : DeclHead) (xs : List Typed) (x : Option Member)
-      → Each (TypedLies files) xs → Is (e.declared_member t s l h xs x)
-  declared_member_in t h xs (Some (member.Field i k)) lie =
-      declared_field_in i h.is_reference k xs (this_local t s) lie
-  declared_member_in t h xs (Some (member.Static i k)) lie = (tt, (tt, here))
-  declared_member_in t h xs _ lie = refl
+  declared_member_in : (t : Table) (h : DeclHead) (making : Making) (x : Option Member)
+      → PartsLie files making → Is (e.declared_member t s l h making x)
+  declared_member_in t h making (Some (member.Field i k)) lie =
+      declared_field_in t i h.is_reference k making (this_local t s) lie
+  declared_member_in t h making (Some (member.Static i k)) lie = (tt, (tt, here))
+  declared_member_in t h making _ lie = refl
 
 -- scopes of this file -----------------------------------------------------------------------------
 
@@ -287,42 +309,126 @@ module _ (files f : ℕ) (known : f < files) where
   module _ (t : Table) where
     -- declarations --------------------------------------------------------------------------------
 
-    variable_in : (s : Scope) (l : ℕ) (h : DeclHead) (xs : List Typed) (v : Option Variable)
-        → s.file ≡ f → Each (TypedLies files) xs → Placed M f (e.declared_variable s l h xs v)
-    variable_in s l h xs None here lie = here
-    variable_in s l h xs (Some v) here lie = (
-      here,
-      declared_lies files (spot.Static v.index) typed.no_exprs h.is_reference v.kind xs
-          (place s l) tt lie (inside s here),
-    )
+    variable_in : (s : Scope) (l : ℕ) (h : DeclHead) (making : Making) (v : Option Variable)
+        → s.file ≡ f → PartsLie files making → Placed M f (e.declared_variable t s l h making v)
+    variable_in s l h making None here lie = here
+    variable_in s l h making (Some v) here lie =
+        in_scope_in (reach s (v.index + 1)) _ here
+        (declared_at_in files s (inside s here) l t (spot.Static v.index) typed.no_exprs
+        h.is_reference v.kind making tt lie)
 
-    global_in : (s : Scope) (l : ℕ) (h : DeclHead) (n : Name) (xs : List Typed) (class : Option ℕ)
-        → s.file ≡ f → Each (TypedLies files) xs → Placed M f (e.declared_global t s l h n xs class)
-    global_in s l h n xs None here lie =
-        variable_in s l h xs (variable_named t s.file n) here lie
-    global_in s l h n xs (Some c) here lie =
+    global_in : (s : Scope) (l : ℕ) (h : DeclHead) (n : Name) (making : Making) (class : Option ℕ)
+        → s.file ≡ f → PartsLie files making
+        → Placed M f (e.declared_global t s l h n making class)
+    global_in s l h n making None here lie =
+        variable_in s l h making (variable_named t s.file n) here lie
+    global_in s l h n making (Some c) here lie =
         in_scope_in s _ here
-        (declared_member_in files s (inside s here) l t h xs (member_here t (Some c) n) lie)
+        (declared_member_in files s (inside s here) l t h making (member_here t (Some c) n) lie)
 
-    local_in : (s : Scope) (l : ℕ) (h : DeclHead) (n : Name) (xs : List Typed) (k : Option Kind)
-        → s.file ≡ f → Each (TypedLies files) xs → Placed M f (e.declared_local s l h n xs k)
-    local_in s l h n xs None here lie = here
-    local_in s l h n xs (Some k) here lie =
-        placed_if M f (not (e.sizes_are_ints xs)) _ _ here (placed_if M f h.is_static _ _ here (
-          here,
-          declared_lies files (spot.Local (length s.locals)) typed.no_exprs h.is_reference k xs
-              (place s l) tt lie (inside s here),
-        ))
+    behind_in : (s : Scope) (a : Answer Denotation) (next : Denotation → Answer Meant) → s.file ≡ f
+        → IsIn files s.file a → ((m : Denotation) → Lies files m → Placed M f (next m))
+        → Placed M f (and_then a next)
+    behind_in s (gives m) next here is goes = goes m is
+    behind_in s (refused why) next here is goes = is ∙ here
 
-    declaration_in : (s : Scope) (l : ℕ) (h : DeclHead) (n : Name) (bs : Brackets) (xs : List Typed)
-        → s.file ≡ f → Each (TypedLies files) xs
-        → Placed M f (e.declaration_meaning t s l h n bs xs)
-    declaration_in s l h n bs xs here lie =
+    local_in : (s : Scope) (l : ℕ) (h : DeclHead) (n : Name) (making : Making) (k : Option Kind)
+        → s.file ≡ f → PartsLie files making → Placed M f (e.declared_local t s l h n making k)
+    local_in s l h n making None here lie = here
+    local_in s l h n making (Some k) here lie =
+        placed_if M f (not (e.sizes_are_ints making)) _ _ here
+        (behind_in s _ _ here (declared_at_in files s (inside s here) l t
+        (spot.Local (length s.locals)) typed.no_exprs h.is_reference k making tt lie)
+        (λ m lies. placed_if M f (e.has_place h making) _ _ (here, lies) here))
+
+    auto_in : (s : Scope) (l : ℕ) (h : DeclHead) (x : Declr) → s.file ≡ f
+        → Placed M f (e.auto_meaning s l h x)
+    auto_in s l h x here =
+        placed_if M f (not (declares_globals s) && is_declared s (declr_name x)) _ _ here (here, tt)
+
+    declared_as_in : (s : Scope) (l : ℕ) (h : DeclHead) (x : Declr) (making : Making)
+        (named : Named) → s.file ≡ f → PartsLie files making
+        → Placed M f (e.declared_as t s l h x making named)
+    declared_as_in s l h x making named here lie =
         placed_if M f (declares_globals s) _ _
-        (placed_if M f (e.sizes_are_ints xs) _ _ (global_in s l h n xs s.class here lie) here)
-        (placed_if M f (is_unknown (named_by t s.file h.base)) _ _ here
+        (placed_if M f (e.sizes_are_ints making) _ _
+        (global_in s l h (declr_name x) making s.class here lie) here)
+        (placed_if M f (is_unknown named) _ _ here
+        (placed_if M f (is_declared s (declr_name x)) _ _ here
+        (local_in s l h (declr_name x) making (written_kind h named x) here lie)))
+
+    declared_with_in : (s : Scope) (l : ℕ) (h : DeclHead) (x : Declr) (making : Making)
+        (base : Option Base) → s.file ≡ f → PartsLie files making
+        → Placed M f (e.declared_with t s l h x making base)
+    declared_with_in s l h x making None here lie = auto_in s l h x here
+    declared_with_in s l h x making (Some b) here lie =
+        declared_as_in s l h x making (named_by t s.file b) here lie
+
+    declaration_in : (s : Scope) (l : ℕ) (h : DeclHead) (x : Declr) (making : Making)
+        → s.file ≡ f → PartsLie files making → Placed M f (e.declaration_meaning t s l h x making)
+    declaration_in s l h x making here lie = declared_with_in s l h x making h.base here lie
+
+    -- a value to a declaration with `auto` --------------------------------------------------------
+
+    assigned_to_in : (to : Spot) (x : Typed) (l : ℕ) (s : Scope) → s.file ≡ f
+        → TypedLies files x → Placed M f (e.assigned_to to x l s)
+    assigned_to_in to x l s here lies =
+        in_scope_in s
+        (e.value_at s l (typed.Assign x.expr to typed.no_exprs (place s l)) x.kind) here
+        ((lies.0, tt, inside s here), inside s here)
+
+    auto_variable_in : (s : Scope) (l k : ℕ) (x : Typed) (v : Option Variable) → s.file ≡ f
+        → TypedLies files x → Placed M f (e.auto_variable s l k x v)
+    auto_variable_in s l k x None here lies = here
+    auto_variable_in s l k x (Some v) here lies =
+        placed_if M f (is_void (kind_now s v)) _ _
+        (assigned_to_in (spot.Static v.index) x l (settle s v.index x.kind) here lies) here
+
+    auto_global_in : (s : Scope) (l k : ℕ) (x : Typed) (n : Name) (class : Option ℕ) → s.file ≡ f
+        → TypedLies files x → Placed M f (e.auto_global t s l k x n class)
+    auto_global_in s l k x n None here lies =
+        auto_variable_in s l k x (variable_named t s.file n) here lies
+    auto_global_in s l k x n (Some c) here lies = here
+
+    auto_assigned_in : (s : Scope) (l k : ℕ) (r : Bool) (x : Typed) (n : Name) (has_form : Bool)
+        → s.file ≡ f → TypedLies files x → Placed M f (e.auto_assigned t s l k r x n has_form)
+    auto_assigned_in s l k r x n has_form here lies =
+        placed_if M f (e.is_no_type x.kind) _ _ here (placed_if M f (not has_form) _ _ here
+        (placed_if M f (not r && are_references x.kind) _ _ here
+        (placed_if M f (declares_globals s) _ _
+        (auto_global_in s l k x n s.class here lies)
         (placed_if M f (is_declared s n) _ _ here
-        (local_in s l h n xs (declared_kind h (named_by t s.file h.base) bs) here lie)))
+        (assigned_to_in (spot.Local (length s.locals)) x l (with_local s n x.kind) here lies)))))
+
+    auto_chucked_in : (s : Scope) (l k : ℕ) (o : ChuckOp) (x : Typed) (n : Name) (has_form : Bool)
+        → s.file ≡ f → TypedLies files x → Placed M f (e.auto_chucked t s l k o x n has_form)
+    auto_chucked_in s l k chuck_op.Chuck x n has_form here lies =
+        auto_assigned_in s l k false x n has_form here lies
+    auto_chucked_in s l k chuck_op.Assign x n has_form here lies =
+        auto_assigned_in s l k true x n has_form here lies
+    auto_chucked_in s l k _ x n has_form here lies = here
+
+    module _ (s : Scope) (here : s.file ≡ f) (l : ℕ) (o : ChuckOp) (x : Typed) (b : Expr)
+        (lies : TypedLies files x) where
+      -- to anything else
+      other_chucked_in : (m : Denotation) → Lies files m → Placed M f
+          (in_scope s
+          (if e.is_now b then e.now_meaning t.parents s l o x
+          else e.chuck_meaning t s l (expr_line b) o x m))
+      other_chucked_in m so =
+          in_scope_in s _ here
+          (placed_if (Lies files) s.file (e.is_now b) _ _
+          (now_in files s (inside s here) l t.parents o x lies)
+          (chuck_in files s (inside s here) l t (expr_line b) o x m lies so))
+
+      chucked_in : (m : Denotation) → Lies files m → Placed M f (e.chucked t s l o x b m)
+      chucked_in (an_auto n has_form) so =
+          auto_chucked_in s l (expr_line b) o x n has_form here lies
+      chucked_in (value y) so = other_chucked_in (value y) so
+      chucked_in (at spot address k) so = other_chucked_in (at spot address k) so
+      chucked_in (callable c) so = other_chucked_in (callable c) so
+      chucked_in (a_type c) so = other_chucked_in (a_type c) so
+      chucked_in (declared d) so = other_chucked_in (declared d) so
 
     -- all expressions -----------------------------------------------------------------------------
 
@@ -375,8 +481,13 @@ module _ (files f : ℕ) (known : f < files) where
       meaning_in s here (tree.new l b xs) =
           placed_then A M f _ _ (values_in s here xs) (λ ys so.
           in_scope_in ys.scope _ so.0
-          (new_in files ys.scope (inside ys.scope so.0) l (named_by t ys.scope.file b) ys.typed
+          (new_in files ys.scope (inside ys.scope so.0) l t (named_by t ys.scope.file b) ys.typed
           so.1))
+      meaning_in s here (tree.new_with l b xs) =
+          placed_then A M f _ _ (values_in s here xs) (λ ys so.
+          in_scope_in ys.scope _ so.0
+          (new_with_in files ys.scope (inside ys.scope so.0) l t (named_by t ys.scope.file b)
+          ys.typed so.1))
       meaning_in s here (tree.spork l (tree.call k c xs)) =
           placed_then M M f _ _ (meaning_in s here c) (λ m so.
           placed_then A M f _ _ (values_in m.scope so.0 xs) (λ ys too.
@@ -406,15 +517,14 @@ module _ (files f : ℕ) (known : f < files) where
           so.1 too.1 last.1))))
       meaning_in s here (tree.declare l h (declr n bs)) =
           placed_then A M f _ _ (sizes_in s here bs) (λ xs so.
-          declaration_in xs.scope l h n bs xs.typed so.0 so.1)
+          declaration_in xs.scope l h (declr n bs) (with_sizes xs.typed) so.0 so.1)
+      meaning_in s here (tree.declare l h (declr_with n es)) =
+          placed_then A M f _ _ (values_in s here es) (λ xs so.
+          declaration_in xs.scope l h (declr_with n es) (with_arguments xs.typed) so.0 so.1)
       meaning_in s here (tree.chuck l a o b) =
           placed_then V M f _ _ (value_in (expr_line a) _ (meaning_in s here a)) (λ x so.
           placed_then M M f _ _ (meaning_in x.scope so.0 b) (λ m too.
-          let within = inside m.scope too.0 in
-          in_scope_in m.scope _ too.0
-          (placed_if (Lies files) m.scope.file (e.is_now b) _ _
-          (now_in files m.scope within l t.parents o x.typed so.1)
-          (chuck_in files m.scope within l t (expr_line b) o x.typed m.means so.1 too.1))))
+          chucked_in m.scope too.0 l o x.typed b so.1 m.means too.1))
 
       pub values_in : (s : Scope) → s.file ≡ f → (xs : Exprs) → Placed A f (values t s xs)
       values_in s here no_exprs = (here, tt)

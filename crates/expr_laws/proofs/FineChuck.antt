@@ -20,7 +20,7 @@ use Rattle.type_rules.specs.Operators.{row_of, widens, widened, with_row, are_re
 use Rattle.type_table.specs.Table.{Table}
 use Rattle.type_table.proofs.Ranges.{ElemIn, KindIn, ValueIn, many}
 use Rattle.check_scope.specs.Expressions as e
-use Rattle.check_scope.specs.Denotations.{Typed, typed_as, Callee, Declaration, Denotation, value, at, callable, a_type, declared, as_value}
+use Rattle.check_scope.specs.Denotations.{Typed, typed_as, Callee, Declaration, Denotation, value, at, callable, a_type, declared, an_auto, as_value}
 use Rattle.ck_typed.specs.Standing.{given}
 use Rattle.check_scope.specs.Scope.{Scope, place}
 use Rattle.ck_typed.specs.Signatures.{binary}
@@ -226,6 +226,7 @@ module _ (p : Program) (t : Table) (has : Has p t) (all : List Kind) where
     to_is s l k x (at spot address to) is so = place_is s l k x (at spot address to) is so
     to_is s l k x (a_type b) is so = tt
     to_is s l k x (declared d) is so = place_is s l k x (declared d) is so
+    to_is s l k x (an_auto n has_form) is so = tt
 
     -- what is chucked to anything else
     pub chuck_meaning_is : (s : Scope) (l k : ℕ) (o : ChuckOp) (x : Typed) (m : Denotation) → IsValue p t all x → IsMeaning p t all m → Ok (IsMeaning p t all) (e.chuck_meaning t s l k o x m)

@@ -1,6 +1,7 @@
 -- Names by themselves, and words: what they stand for is what the program has.
-use Rattle.std.proofs.Common.{◌≡◌, ℕ, zero, suc, ◌<◌, Bool, true, false, ◌&&◌, not, if◌then◌else◌, List, [], ◌∷◌, ◌++◌, length, Option, Some, None, refl, sym, ap, subst, arith}
-use Rattle.std.specs.Prelude.{cond, nat_lt, find, IfSome, slice_get}
+use Rattle.std.proofs.Common.{◌≡◌, ◌∙◌, ℕ, zero, suc, ◌<◌, Bool, true, false, ◌&&◌, not, if◌then◌else◌, List, [], ◌∷◌, ◌++◌, length, Option, Some, None, refl, sym, ap, subst, arith}
+use Rattle.std.specs.Prelude.{cond, nat_lt, nat_eq, ◌||◌, find, IfSome, slice_get}
+use Rattle.std.proofs.lemmas.Bool.{eqb-true}
 use Rattle.std.specs.Option.{option_map}
 use Rattle.std.specs.Str.{bytes_eq}
 use Rattle.ck_values.specs.declared.kind.Elem.TheVariants as elem
@@ -33,10 +34,10 @@ use Rattle.type_table.proofs.Ranges.{Each, Within, ValueIn, many}
 use Rattle.check_scope.specs.Expressions.{this_value, word_meaning}
 use Rattle.check_scope.specs.Denotations as m
 use Rattle.check_scope.specs.Denotations.{Denotation, member_here, name_meaning}
-use Rattle.check_scope.specs.Scope.{Scope, or_void, local_in, local_named, local_kind, this_local, is_top, place}
+use Rattle.check_scope.specs.Scope.{Scope, settled_or, kind_now, or_void, local_in, local_named, local_kind, this_local, is_top, place}
 use Rattle.ck_typed.specs.WellFormed.{HasKind}
 use Rattle.expr_laws.proofs.Oks.{both, ok_if}
-use Rattle.expr_laws.proofs.Premises.{Ok, PlainFun, MemberIs, Has, IsThis, IsClass, IsScope, Valued, IsValue, IsType, IsMeaning}
+use Rattle.expr_laws.proofs.Premises.{Ends, HasSettled, HasStatic, Ok, PlainFun, MemberIs, Has, IsThis, IsClass, IsScope, Valued, IsValue, IsType, IsMeaning}
 use Rattle.expr_laws.proofs.Standing.{stands, gives_stands}
 
 -- what is found ---------------------------------------------------------------------------------
@@ -111,13 +112,13 @@ module _ (p : Program) (t : Table) (has : Has p t) (all : List Kind) where
   -- this ------------------------------------------------------------------------------------
 
   -- the object of a class is one of it
-  pub this_valued : (s : Scope) (i c : ℕ) (q : Place) → s.class ≡ Some c → IsThis t s (Some i) s.class → Within s.locals all
+  pub this_valued : (s : Scope) (i c : ℕ) (q : Place) → s.class ≡ Some c → IsThis t s (Some i) s.class → Ends p t s all
       → Valued p t all (typed.Variadic (variadic.Read (spot.Local i)) no_exprs q) (One (elem.Class c))
   this_valued s i c q of is within =
       let this : (slice_get s.locals i ≡ Some (One (elem.Class c))) × (c < many t) = subst (IsThis t s (Some i)) of is in
-      (One (elem.Class c), get_within s.locals all i (One (elem.Class c)) within this.0, stands p.classes (One (elem.Class c)))
+      (One (elem.Class c), get_within s.locals all i (One (elem.Class c)) within.locals this.0, stands p.classes (One (elem.Class c)))
 
-  with_this_is : (s : Scope) (l : ℕ) (c : ℕ) (this : Option ℕ) (named : typed.Expr → Denotation) → s.class ≡ Some c → IsThis t s this s.class → Within s.locals all
+  with_this_is : (s : Scope) (l : ℕ) (c : ℕ) (this : Option ℕ) (named : typed.Expr → Denotation) → s.class ≡ Some c → IsThis t s this s.class → Ends p t s all
       → ((e : typed.Expr) → Valued p t all e (One (elem.Class c)) → IsMeaning p t all (named e)) → Ok (IsMeaning p t all) (m.with_this s l this named)
   with_this_is s l c None named of is within follows = tt
   with_this_is s l c (Some i) named of is within follows =
@@ -153,16 +154,16 @@ module _ (p : Program) (t : Table) (has : Has p t) (all : List Kind) where
   unless_public_is : (s : Scope) (l : ℕ) (x : Denotation) → IsMeaning p t all x → Ok (IsMeaning p t all) (m.unless_public t s l x)
   unless_public_is s l x is = ok_if (IsMeaning p t all) (m.is_public_class t s.class) _ _ (λ _. tt) (λ _. is)
 
-  local_is : (s : Scope) (i : ℕ) → i < length s.locals → IsScope t s → Within s.locals all → (slice_get all i ≡ Some (local_kind s i)) × ValueIn (many t) (local_kind s i)
+  local_is : (s : Scope) (i : ℕ) → i < length s.locals → IsScope t s → Ends p t s all → (slice_get all i ≡ Some (local_kind s i)) × ValueIn (many t) (local_kind s i)
   local_is s i lt is within =
-      let found = kind_at (ValueIn (many t)) s.locals i is.kinds lt in
-      (get_within s.locals all i (local_kind s i) within found.0, found.1)
+      let found = kind_at (ValueIn (many t)) s.locals i within.kinds lt in
+      (get_within s.locals all i (local_kind s i) within.locals found.0, found.1)
 
   local_named_is : (s : Scope) (n : Name) → IsScope t s → IfSome (local_named s n) (λ i. i < length s.locals)
   local_named_is s n is =
       or_else_is (λ i. i < length s.locals) (local_in s.blocks n) (lookup n s.own) (local_in_is (λ i. i < length s.locals) n s.blocks is.blocks) (lookup_is (λ i. i < length s.locals) n s.own is.own)
 
-  in_locals_is : (s : Scope) (n : Name) → IsScope t s → Within s.locals all → IsFine (m.in_locals s n)
+  in_locals_is : (s : Scope) (n : Name) → IsScope t s → Ends p t s all → IsFine (m.in_locals s n)
   in_locals_is s n is within =
       made_is (λ i. i < length s.locals) (Ok (IsMeaning p t all)) (λ i. gives (m.at (spot.Local i) no_exprs (local_kind s i))) (local_named s n) (λ i lt. local_is s i lt is within)
       (local_named_is s n is)
@@ -175,36 +176,51 @@ module _ (p : Program) (t : Table) (has : Has p t) (all : List Kind) where
   member_is_here s n None of is = tt
   member_is_here s n (Some c) of is = some_is (IsHere s) (member_named t c n) (λ x found. (c, of, has.member c n x (class_in s c is of) found))
 
-  in_fields_is : (s : Scope) (l : ℕ) (x : Option Member) → IfSome x (IsHere s) → IsScope t s → Within s.locals all → IsFine (m.in_fields t s l x)
+  in_fields_is : (s : Scope) (l : ℕ) (x : Option Member) → IfSome x (IsHere s) → IsScope t s → Ends p t s all → IsFine (m.in_fields t s l x)
   in_fields_is s l (Some (member.Field i k)) here is within =
       with_this_is s l here.0 (this_local t s) (λ this. m.at (spot.Field i) (m.one this) k) here.1 is.this within (λ e valued. ((here.0, valued, here.2.0), here.2.1))
   in_fields_is s l (Some (member.Static i k)) here is within = here.2
   in_fields_is s l _ here is within = tt
 
   abbrev IsVariable : Variable → Type 0
-  IsVariable v = (slice_get p.statics v.index ≡ Some v.kind) × ValueIn (many t) v.kind
+  IsVariable v = HasStatic p t v.index v.kind
 
-  seen_is : (s : Scope) (v : Option Variable) → IfSome v IsVariable → IfSome (m.seen s v) IsVariable
-  seen_is s None is = tt
-  seen_is s (Some v) is = go (is_top s && not (nat_lt v.index s.reached))
+  -- the table's kind is the program's where it is one, and so is a kind that was settled
+  abbrev IsNamed : Variable → Type 0
+  IsNamed v = m.is_void v.kind ≡ false → IsVariable v
+
+  kind_is : (v : Variable) → IsNamed v → (settled : List (ℕ × Kind)) → Each (HasSettled p t) settled → (k : Kind)
+      → settled_or v.kind (find (λ x. nat_eq x.0 v.index) settled) ≡ k → m.is_void k ≡ false → HasStatic p t v.index k
+  kind_is v named [] are k is some = subst (HasStatic p t v.index) is (named (ap m.is_void is ∙ some))
+  kind_is v named ((i, j) ∷ rest) are k is some = go (nat_eq i v.index) refl is (λ it. kind_is v named rest are.1 k it some)
     where
-      go : (b : Bool) → IfSome (if b then None else Some v) IsVariable
-      go true = tt
-      go false = is
+      go : (here : Bool) → nat_eq i v.index ≡ here → settled_or v.kind (cond here (Some (i, j)) (find (λ x. nat_eq x.0 v.index) rest)) ≡ k
+          → (settled_or v.kind (find (λ x. nat_eq x.0 v.index) rest) ≡ k → HasStatic p t v.index k) → HasStatic p t v.index k
+      go true so it later = subst (λ x. HasStatic p t x k) (eqb-true i v.index so) (subst (HasStatic p t i) it are.0)
+      go false so it later = later it
 
-  in_variables_is : (s : Scope) (l : ℕ) (n : Name) → IsFine (m.in_variables t s l n)
-  in_variables_is s l n =
+  seen_is : (s : Scope) → Ends p t s all → (v : Option Variable) → IfSome v IsNamed → IfSome (m.seen s v) IsVariable
+  seen_is s within None is = tt
+  seen_is s within (Some v) is = go (m.is_void (kind_now s v)) (is_top s && not (nat_lt v.index s.reached)) refl
+    where
+      go : (no hidden : Bool) → m.is_void (kind_now s v) ≡ no → IfSome (if no || hidden then None else Some (record v { kind = kind_now s v })) IsVariable
+      go true hidden so = tt
+      go false true so = tt
+      go false false so = kind_is v is s.settled within.settled (kind_now s v) refl so
+
+  in_variables_is : (s : Scope) (l : ℕ) (n : Name) → Ends p t s all → IsFine (m.in_variables t s l n)
+  in_variables_is s l n within =
       made_is IsVariable (Ok (IsMeaning p t all)) (λ v. m.unless_public t s l (m.at (spot.Static v.index) no_exprs v.kind)) (m.seen s (variable_named t s.file n))
       (λ v is. unless_public_is s l (m.at (spot.Static v.index) no_exprs v.kind) is)
-      (seen_is s (variable_named t s.file n) (some_is IsVariable (variable_named t s.file n) (λ v. has.variable s.file n v)))
+      (seen_is s within (variable_named t s.file n) (some_is IsNamed (variable_named t s.file n) (λ v. has.variable s.file n v)))
 
-  in_methods_is : (s : Scope) (l : ℕ) (x : Option Member) → IfSome x (IsHere s) → IsScope t s → Within s.locals all → IsFine (m.in_methods t s l x)
+  in_methods_is : (s : Scope) (l : ℕ) (x : Option Member) → IfSome x (IsHere s) → IsScope t s → Ends p t s all → IsFine (m.in_methods t s l x)
   in_methods_is s l (Some (member.Fun f None)) here is within = here.2
   in_methods_is s l (Some (member.Fun f (Some k))) here is within =
       with_this_is s l here.0 (this_local t s) (λ this. m.callable (m.method this f k)) here.1 is.this within (λ e valued. (here.0, valued, here.2))
   in_methods_is s l _ here is within = tt
 
-  in_event_calls_is : (s : Scope) (l : ℕ) (n : Name) (class : Option ℕ) → s.class ≡ class → IsScope t s → Within s.locals all → IsFine (m.in_event_calls t s l n class)
+  in_event_calls_is : (s : Scope) (l : ℕ) (n : Name) (class : Option ℕ) → s.class ≡ class → IsScope t s → Ends p t s all → IsFine (m.in_event_calls t s l n class)
   in_event_calls_is s l n None of is within = tt
   in_event_calls_is s l n (Some c) of is within =
       some_if (Ok (IsMeaning p t all)) (is_event_call t c n) (m.with_this s l (this_local t s) (λ this. m.callable (m.native_on this on.Event n)))
@@ -224,14 +240,14 @@ module _ (p : Program) (t : Table) (has : Has p t) (all : List Kind) where
   in_built_ins_is : (n : Name) → IsFine (m.in_built_ins n)
   in_built_ins_is n = made_is (IsType p t all) (Ok (IsMeaning p t all)) (λ b. gives (m.a_type b)) (built_in n) (λ b is. is) (built_in_is n)
 
-  in_places_are : (s : Scope) (l : ℕ) (n : Name) → IsScope t s → Within s.locals all → Each IsFine (m.in_places t s l n)
+  in_places_are : (s : Scope) (l : ℕ) (n : Name) → IsScope t s → Ends p t s all → Each IsFine (m.in_places t s l n)
   in_places_are s l n is within =
       let here = member_is_here s n s.class refl is in (
         in_locals_is s n is within,
         (
           in_fields_is s l (member_here t s.class n) here is within,
           (
-            in_variables_is s l n,
+            in_variables_is s l n within,
             (
               in_methods_is s l (member_here t s.class n) here is within,
               (in_event_calls_is s l n s.class refl is within, (in_functions_is s l n, (in_classes_is s n, (in_built_ins_is n, tt)))),
@@ -248,12 +264,12 @@ module _ (p : Program) (t : Table) (has : Has p t) (all : List Kind) where
       go None is = tt
       go (Some answer) is = is
 
-  pub name_meaning_is : (s : Scope) (l : ℕ) (n : Name) → IsScope t s → Within s.locals all → Ok (IsMeaning p t all) (name_meaning t s l n)
+  pub name_meaning_is : (s : Scope) (l : ℕ) (n : Name) → IsScope t s → Ends p t s all → Ok (IsMeaning p t all) (name_meaning t s l n)
   name_meaning_is s l n is within = first_known_is s l (m.in_places t s l n) (in_places_are s l n is within)
 
   -- words ---------------------------------------------------------------------------------------
 
-  this_value_is : (s : Scope) (q : Place) (l : ℕ) (this : Option ℕ) (class : Option ℕ) → s.class ≡ class → IsThis t s this class → IsScope t s → Within s.locals all
+  this_value_is : (s : Scope) (q : Place) (l : ℕ) (this : Option ℕ) (class : Option ℕ) → s.class ≡ class → IsThis t s this class → IsScope t s → Ends p t s all
       → Ok (IsMeaning p t all) (this_value s q l this)
   this_value_is s q l None class of is scope within = tt
   this_value_is s q l (Some i) None of is scope within = absurd is
@@ -262,7 +278,7 @@ module _ (p : Program) (t : Table) (has : Has p t) (all : List Kind) where
       subst (λ k. IsValue p t all (m.typed_as (typed.Variadic (variadic.Read (spot.Local i)) no_exprs q) k q))
       (sym same) (this_valued s i c q of (subst (IsThis t s (Some i)) (sym of) is) within, is.1)
 
-  pub word_meaning_is : (s : Scope) (l : ℕ) (c : Constant) → IsScope t s → Within s.locals all → Ok (IsMeaning p t all) (word_meaning t s l c)
+  pub word_meaning_is : (s : Scope) (l : ℕ) (c : Constant) → IsScope t s → Ends p t s all → Ok (IsMeaning p t all) (word_meaning t s l c)
   word_meaning_is s l constant.True is within = ((One elem.Int, refl, refl), tt)
   word_meaning_is s l constant.False is within = ((One elem.Int, refl, refl), tt)
   word_meaning_is s l constant.Null is within = ((Null, refl, tt), tt)

@@ -30,7 +30,7 @@ use Rattle.type_table.specs.Answer.{Answer, gives, refused, and_then}
 use Rattle.type_table.proofs.Ranges.{ElemIn, KindIn, ValueIn, many}
 use Rattle.type_table.specs.Table.{Table}
 use Rattle.check_scope.specs.Expressions as e
-use Rattle.check_scope.specs.Denotations.{Typed, typed_as, Denotation, value, at, callable, a_type, declared, as_value}
+use Rattle.check_scope.specs.Denotations.{Typed, typed_as, Denotation, value, at, callable, a_type, declared, an_auto, as_value}
 use Rattle.ck_typed.specs.Standing.{given}
 use Rattle.check_scope.specs.Scope.{Scope, place}
 use Rattle.ck_typed.specs.Signatures.{binary}
@@ -109,6 +109,7 @@ module _ (p : Program) (t : Table) (has : Has p t) (all : List Kind) where
   as_value_is s l (at spot address k) is = ((k, is.0, subst (λ j. Stands p.classes k j) (sym (given_value (many t) k is.1)) (stands p.classes k)), value_in (many t) k is.1)
   as_value_is s l (callable c) is = tt
   as_value_is s l (a_type b) is = tt
+  as_value_is s l (an_auto n has_form) is = tt
   as_value_is s l (declared d) is = (subst (λ j. Valued p t all d.alone j) (sym (given_value (many t) d.kind is.0.1)) is.1, value_in (many t) d.kind is.0.1)
 
   -- operators of two operands -------------------------------------------------------------------

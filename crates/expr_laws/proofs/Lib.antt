@@ -6,12 +6,15 @@ pub mod FineValues
 pub mod FineTypes
 pub mod FineForms
 pub mod ScopeLaws
+pub mod Settling
 pub mod Growing
 pub mod FineNames
 pub mod FineMembers
 pub mod FineCalls
+pub mod FineMaking
 pub mod FineDeclarations
 pub mod FineChuck
+pub mod FineAutos
 pub mod FineMeanings
 pub mod Results
 pub mod NameFiles

@@ -49,6 +49,7 @@ module _ (files : ℕ) where
   Lies (m.callable c) = CalleeLies c
   Lies (m.a_type b) = Unit {0}
   Lies (m.declared d) = ExprsLie files d.address × ExprLies files d.alone
+  Lies (m.an_auto n has_form) = Unit {0}
 
   -- what is found lies there, and what is wrong stands in this file
   abbrev pub IsIn : (file : ℕ) → Answer Denotation → Type 0
@@ -70,6 +71,7 @@ module _ (files : ℕ) where
   as_value_in s here l (m.callable c) lies = refl
   as_value_in s here l (m.a_type b) lies = refl
   as_value_in s here l (m.declared d) lies = (lies.1, here)
+  as_value_in s here l (m.an_auto n has_form) lies = refl
 
 module _ (files : ℕ) (t : Table) (s : Scope) (here : s.file < files) (l : ℕ) where
   -- names -----------------------------------------------------------------------------------------
@@ -154,6 +156,7 @@ module _ (files : ℕ) (t : Table) (s : Scope) (here : s.file < files) (l : ℕ)
     object_in c n (Some (member.Static i k)) = (lies, tt)
     object_in c n (Some (member.Fun f None)) = lies
     object_in c n (Some (member.Fun f (Some k))) = lies
+    object_in c n (Some member.Auto) = refl
     object_in c n None = placed_if (Lies files) s.file (is_event_call t c n) _ _ lies refl
 
     ugen_in : (k : UgenKind) (n : Name) → IsIn files s.file (m.ugen_meaning s l o k n)

@@ -32,13 +32,13 @@ use Rattle.type_rules.specs.declared.operators.Joined.{Joined}
 use Rattle.type_table.specs.Answer.{Answer}
 use Rattle.type_table.specs.declared.types.Named.{Named}
 use Rattle.type_table.specs.declared.types.Named.TheVariants as named
-use Rattle.type_table.specs.Table.{Table, fun_of}
+use Rattle.type_table.specs.Table.{Table, fun_of, construct}
 use Rattle.type_table.specs.Types.{is_unknown, is_plain, value_kind}
-use Rattle.type_table.proofs.FaultFiles.{placed_then, placed_if}
+use Rattle.type_table.proofs.FaultFiles.{Placed, InFile, placed_then, placed_if, if_in}
 use Rattle.type_table.proofs.Ranges.{Each}
 use Rattle.check_scope.specs.Denotations.{Typed, typed_as, Callee, numbered, through, method, native, native_on, param, yields, exits, Denotation, at, callable, as_value}
 use Rattle.check_scope.specs.Operations as e
-use Rattle.check_scope.specs.Scope.{Scope, place, this_local}
+use Rattle.check_scope.specs.Scope.{Scope, is_empty, place, this_local}
 use Rattle.expr_laws.proofs.NameFiles.{TypedLies, CalleeLies, Lies, IsIn, as_value_in}
 
 -- both ways of a test
@@ -278,26 +278,66 @@ module _ (files : ℕ) (s : Scope) (here : s.file < files) (l : ℕ) where
 
   -- `new` -----------------------------------------------------------------------------------------
 
-  new_object_in : (i : Elem) → Is (e.new_object s l i)
-  new_object_in (elem.Class c) = (here, here)
-  new_object_in (elem.Unit UGen) = refl
-  new_object_in (elem.Unit k) = (here, here)
-  new_object_in _ = refl
+  -- an object that is made
+  abbrev pub MadeIn : Answer typed.Expr → Type 0
+  MadeIn a = Placed (ExprLies files) s.file a
 
-  new_array_in : (i : Elem) (sizes : List Typed) → Each (TypedLies files) sizes
-      → Is (e.new_array s l i sizes)
-  new_array_in i [] lie = new_object_in i
-  new_array_in i (n ∷ []) lie =
+  constructed_in : (o : typed.Expr) (f : ℕ) (es : Option typed.Exprs) → ExprLies files o
+      → IfSome es (ExprsLie files) → MadeIn (e.constructed s l o f es)
+  constructed_in o f None lies lie = refl
+  constructed_in o f (Some es) lies lie = (lies, lie, here)
+
+  made_by_in : (t : Table) (o : typed.Expr) (xs : List Typed) (f : Option ℕ) → ExprLies files o
+      → Each (TypedLies files) xs → MadeIn (e.made_by t s l o xs f)
+  made_by_in t o [] None lies lie = lies
+  made_by_in t o (x ∷ xs) None lies lie = refl
+  made_by_in t o xs (Some f) lies lie =
+      constructed_in o f (e.fitted t.parents xs (fun_of t f).params) lies
+      (fitted_lie files t.parents xs (fun_of t f).params lie)
+
+  pub object_made_in : (t : Table) (i : Elem) (xs : List Typed) → Each (TypedLies files) xs
+      → MadeIn (e.object_made t s l i xs)
+  object_made_in t (elem.Class c) xs lie =
+      made_by_in t (typed.New c (place s l)) xs (construct t c) here lie
+  object_made_in t (elem.Unit UGen) xs lie = refl
+  object_made_in t (elem.Unit k) xs lie =
+      made_by_in t (typed.Leaf (leaf.NewUgen k) (place s l)) xs None here lie
+  object_made_in t _ xs lie = refl
+
+  made_alone_in : (t : Table) (f : Option ℕ) → InFile s.file (e.made_alone t s l f)
+  made_alone_in t None = tt
+  made_alone_in t (Some f) = if_in s.file (is_empty (fun_of t f).params) _ _ tt refl
+
+  pub maker_in : (t : Table) (i : Elem) → InFile s.file (e.maker_of t s l i)
+  maker_in t (elem.Class c) = made_alone_in t (construct t c)
+  maker_in t _ = tt
+
+  new_object_in : (t : Table) (i : Elem) (xs : List Typed) → Each (TypedLies files) xs
+      → Is (e.new_object t s l i xs)
+  new_object_in t i xs lie =
+      placed_then (ExprLies files) (Lies files) s.file (e.object_made t s l i xs) _
+      (object_made_in t i xs lie) (λ o lies. (lies, here))
+
+  new_array_in : (t : Table) (i : Elem) (sizes : List Typed) → Each (TypedLies files) sizes
+      → Is (e.new_array t s l i sizes)
+  new_array_in t i [] lie = new_object_in t i [] tt
+  new_array_in t i (n ∷ []) lie =
       if_is (e.is_new_item i && e.is_int n.kind) _ _ ((lie.0.0, here), here) refl
-  new_array_in i (n ∷ o ∷ []) lie =
+  new_array_in t i (n ∷ o ∷ []) lie =
       if_is (e.is_new_item i && e.are_ints n o) _ _ ((lie.0.0, lie.1.0.0, here), here) refl
-  new_array_in i _ lie = refl
+  new_array_in t i _ lie = refl
 
-  pub new_in : (n : Named) (sizes : List Typed) → Each (TypedLies files) sizes
-      → Is (e.new_meaning s l n sizes)
-  new_in named.Unknown sizes lie = refl
-  new_in (named.Elem i) sizes lie = new_array_in i sizes lie
-  new_in _ sizes lie = refl
+  pub new_in : (t : Table) (n : Named) (sizes : List Typed) → Each (TypedLies files) sizes
+      → Is (e.new_meaning t s l n sizes)
+  new_in t named.Unknown sizes lie = refl
+  new_in t (named.Elem i) sizes lie = new_array_in t i sizes lie
+  new_in t _ sizes lie = refl
+
+  pub new_with_in : (t : Table) (n : Named) (xs : List Typed) → Each (TypedLies files) xs
+      → Is (e.new_with_meaning t s l n xs)
+  new_with_in t named.Unknown xs lie = refl
+  new_with_in t (named.Elem i) xs lie = new_object_in t i xs lie
+  new_with_in t _ xs lie = refl
 
   -- calls -----------------------------------------------------------------------------------------
 

@@ -1,6 +1,6 @@
 -- What the law of typing rests on: what a program has under the numbers of a table, which scopes are right, and what an
 -- expression stands for then.
-use Rattle.std.specs.Prelude.{◌≡◌, ◌⊎◌, ℕ, ◌<◌, ◌≤◌, true, List, length, drop, Option, Some, None, slice_get}
+use Rattle.std.specs.Prelude.{◌≡◌, ◌⊎◌, ℕ, ◌<◌, ◌≤◌, true, false, List, length, drop, Option, Some, None, slice_get}
 use Rattle.ck_values.specs.declared.kind.Elem.{Elem}
 use Rattle.ck_values.specs.declared.kind.Elem.TheVariants as elem
 use Rattle.ck_values.specs.declared.kind.Kind.{Kind}
@@ -22,12 +22,12 @@ use Rattle.type_table.specs.declared.table.Member.{Member}
 use Rattle.type_table.specs.declared.table.Member.TheVariants as member
 use Rattle.type_table.specs.declared.table.Variable.{Variable}
 use Rattle.type_table.proofs.Ranges.{Each, Within, ElemIn, KindIn, ValueIn, many}
-use Rattle.type_table.specs.Table.{Table, fun_of, class_named, fun_named, member_named, variable_named}
+use Rattle.type_table.specs.Table.{Table, fun_of, class_named, fun_named, member_named, variable_named, construct}
 use Rattle.ck_typed.specs.Standing.{IsBelow}
 use Rattle.ck_typed.specs.Signatures.{parameter}
-use Rattle.ck_typed.specs.WellFormed.{FoundWhere, params_of, Supplies, Methods, HasKind, IsAt}
+use Rattle.ck_typed.specs.WellFormed.{FoundWhere, params_of, Supplies, Methods, Constructs, HasKind, IsAt}
 use Rattle.check_scope.specs.Scope.{Scope, this_local}
-use Rattle.check_scope.specs.Denotations.{Typed, Callee, numbered, through, method, native, native_on, param, yields, exits, Declaration, Denotation, value, at, callable, a_type, declared}
+use Rattle.check_scope.specs.Denotations.{Typed, Callee, numbered, through, method, native, native_on, param, yields, exits, Declaration, Denotation, value, at, callable, a_type, declared, an_auto, is_void}
 use Rattle.ck_typed.specs.Standing.{given}
 
 -- lists and answers -----------------------------------------------------------------------------
@@ -54,17 +54,28 @@ MemberIs p t c (member.Field i k) = FoundWhere (slice_get p.classes c) (λ class
 MemberIs p t c (member.Static i k) = (slice_get p.statics i ≡ Some k) × ValueIn (many t) k
 MemberIs p t c (member.Fun f None) = PlainFun p t f
 MemberIs p t c (member.Fun f (Some slot)) = SlotFun p t c slot f
+MemberIs p t c member.Auto = Unit {0}
 
--- the program has all that the table names
+-- a constructor of a class, with the parameters that the table has
+abbrev pub MakerIs : Program → Table → (class fun : ℕ) → Type 0
+MakerIs p t c f = Constructs p f (One (elem.Class c)) (λ params. params ≡ (fun_of t f).params)
+
+-- a file variable of this kind
+abbrev pub HasStatic : Program → Table → ℕ → Kind → Type 0
+HasStatic p t i k = (slice_get p.statics i ≡ Some k) × ValueIn (many t) k
+
+-- the program has all that the table names; of a variable with `auto` it tells nothing before that has
+-- a kind
 pub record Has (p : Program) (t : Table) : Type 0 where
   pub classes : many t ≤ length p.classes
   pub two : 2 ≤ many t
   pub below : (c d : ℕ) → c < many t → is_below t.parents c d ≡ true → IsBelow p.classes c d
   pub named : (file c : ℕ) (n : Name) → class_named t file n ≡ Some c → c < many t
-  pub variable : (file : ℕ) (n : Name) (v : Variable) → variable_named t file n ≡ Some v → (slice_get p.statics v.index ≡ Some v.kind) × ValueIn (many t) v.kind
+  pub variable : (file : ℕ) (n : Name) (v : Variable) → variable_named t file n ≡ Some v → is_void v.kind ≡ false → HasStatic p t v.index v.kind
   pub fun : (file f : ℕ) (n : Name) → fun_named t file n ≡ Some f → PlainFun p t f
   pub params : (f : ℕ) → Each (ValueIn (many t)) (fun_of t f).params
   pub member : (c : ℕ) (n : Name) (m : Member) → c < many t → member_named t c n ≡ Some m → MemberIs p t c m
+  pub maker : (c f : ℕ) → c < many t → construct t c ≡ Some f → MakerIs p t c f
 
 -- scopes ----------------------------------------------------------------------------------------
 
@@ -83,7 +94,6 @@ IsClass t None = Unit {0}
 IsClass t (Some c) = c < many t
 
 pub record IsScope (t : Table) (s : Scope) : Type 0 where
-  pub kinds : Each (ValueIn (many t)) s.locals
   pub own : Each (IsNumber s) s.own
   pub blocks : Each (Each (IsNumber s)) s.blocks
   pub class : IsClass t s.class
@@ -95,6 +105,27 @@ pub record Grows (s u : Scope) : Type 0 where
   pub class : u.class ≡ s.class
   pub fun : u.fun ≡ s.fun
   pub locals : Within s.locals u.locals
+  pub settled : Within s.settled u.settled
+
+-- what got a kind has it in the program
+abbrev pub IsSettled : Program → ℕ × Kind → Type 0
+IsSettled p settled = slice_get p.statics settled.0 ≡ Some settled.1
+
+-- these locals are all that the function has in the end, and what was settled up to this scope is so
+-- in the program
+pub record Leads (p : Program) (s : Scope) (all : List Kind) : Type 0 where
+  pub locals : Within s.locals all
+  pub settled : Each (IsSettled p) s.settled
+
+-- a file variable that got a kind
+abbrev pub HasSettled : Program → Table → ℕ × Kind → Type 0
+HasSettled p t settled = HasStatic p t settled.0 settled.1
+
+-- and the kinds that locals and file variables have up to this scope are those of values
+pub record Ends (p : Program) (t : Table) (s : Scope) (all : List Kind) : Type 0 where
+  pub locals : Within s.locals all
+  pub kinds : Each (ValueIn (many t)) s.locals
+  pub settled : Each (HasSettled p t) s.settled
 
 -- what expressions stand for --------------------------------------------------------------------
 
@@ -156,3 +187,4 @@ module _ (p : Program) (t : Table) (all : List Kind) where
   IsMeaning (callable c) = IsCallee c
   IsMeaning (a_type b) = IsType b
   IsMeaning (declared d) = IsDeclaration d
+  IsMeaning (an_auto n has_form) = Unit {0}

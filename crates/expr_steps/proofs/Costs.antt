@@ -30,6 +30,7 @@ cost (m.at spot address k) = all_most address + 4
 cost (m.callable c) = receiver_most c
 cost (m.a_type b) = 0
 cost (m.declared d) = most d.alone + all_most d.address + 4
+cost (m.an_auto n has_form) = 0
 
 -- values, each of which may be taken as one of another type
 abbrev pub total : List Typed → ℕ
@@ -60,6 +61,7 @@ value_costs s l (m.at spot address k) = omega arith
 value_costs s l (m.callable c) = tt
 value_costs s l (m.a_type b) = tt
 value_costs s l (m.declared d) = omega arith
+value_costs s l (m.an_auto n has_form) = tt
 
 -- values ------------------------------------------------------------------------------------------
 

@@ -8,6 +8,7 @@ use Rattle.ck_values.specs.declared.kind.Elem.TheVariants as elem
 use Rattle.ck_values.specs.declared.kind.Kind.{Kind}
 use Rattle.ck_values.specs.declared.kind.Kind.TheVariants.{One}
 use Rattle.ck_values.specs.declared.trap.Place.{Place}
+use Rattle.ck_syntax.specs.declared.declaration.Base.{Base}
 use Rattle.ck_syntax.specs.declared.declaration.DeclHead.{DeclHead}
 use Rattle.ck_syntax.specs.declared.operator.BinaryOp.{BinaryOp}
 use Rattle.ck_syntax.specs.declared.operator.ChuckOp.{ChuckOp}
@@ -16,7 +17,7 @@ use Rattle.ck_syntax.specs.declared.operator.Constant.TheVariants as constant
 use Rattle.ck_syntax.specs.Size.{expr_size, exprs_size, before_comma, bracketed_size, brackets_size, declr_size}
 use Rattle.ck_syntax.specs.Tree as tree
 use Rattle.ck_syntax.specs.Tree.{Name, Expr, expr_line, Exprs, no_exprs, and_expr, Brackets, no_brackets, and_empty}
-use Rattle.ck_syntax.specs.Tree.{and_size, Declr, declr}
+use Rattle.ck_syntax.specs.Tree.{and_size, Declr, declr, declr_with, declr_name}
 use Rattle.ck_typed.specs.declared.expr.Spot.{Spot}
 use Rattle.ck_typed.specs.declared.expr.Spot.TheVariants as spot
 use Rattle.ck_typed.specs.declared.operation.Unary.TheVariants as unary
@@ -32,13 +33,13 @@ use Rattle.type_table.specs.declared.table.Member.{Member}
 use Rattle.type_table.specs.declared.table.Member.TheVariants as member
 use Rattle.type_table.specs.declared.table.Variable.{Variable}
 use Rattle.type_table.specs.Table.{Table, fun_of, variable_named}
-use Rattle.type_table.specs.Types.{named_by, is_unknown, is_plain, declared_kind}
+use Rattle.type_table.specs.Types.{named_by, is_unknown, is_plain, written_kind}
 use Rattle.check_scope.specs.Denotations as m
-use Rattle.check_scope.specs.Denotations.{Typed, Callee, Declaration, Denotation, as_value, member_here}
+use Rattle.check_scope.specs.Denotations.{Typed, Callee, Declaration, Denotation, as_value, is_void, member_here}
 use Rattle.check_scope.specs.Expressions as e
-use Rattle.check_scope.specs.Expressions.{Meant, Valued, AllValued, in_scope, value_of, meaning, values, sizes}
+use Rattle.check_scope.specs.Expressions.{Making, Meant, Valued, AllValued, in_scope, value_of, meaning, values, sizes}
 use Rattle.check_scope.specs.Expressions.{typing}
-use Rattle.check_scope.specs.Scope.{Scope, is_declared, place, this_local, declares_globals}
+use Rattle.check_scope.specs.Scope.{Scope, reach, kind_now, is_declared, place, this_local, declares_globals}
 use Rattle.expr_laws.proofs.Oks.{ok_then, ok_map}
 use Rattle.expr_laws.proofs.Premises.{Ok}
 use Rattle.expr_steps.specs.Tokens.{token_steps}
@@ -47,8 +48,13 @@ use Rattle.expr_steps.proofs.Costs.{taken_most, widened_most, total_more}
 use Rattle.expr_steps.proofs.Most.{bodies_most, most, all_most}
 use Rattle.expr_steps.proofs.Names.{name_costs, member_costs}
 use Rattle.expr_steps.proofs.Operations.{word_costs, binary_costs, prefix_costs, postfix_costs, dur_costs, cast_costs}
-use Rattle.expr_steps.proofs.Operations.{choice_costs, array_costs, item_costs, new_costs, table_call_costs}
+use Rattle.expr_steps.proofs.Operations.{choice_costs, array_costs, item_costs, object_most, object_made_most, new_costs, new_with_costs, table_call_costs}
 use Rattle.expr_steps.proofs.Operations.{native_call_costs, call_costs, spork_costs}
+
+-- the values that a declaration makes its first value of
+abbrev pub total_of : Making → ℕ
+total_of (e.with_sizes xs) = total xs
+total_of (e.with_arguments xs) = total xs
 
 -- of one argument, or of none where it takes none
 first_most : (x : Typed) (es : typed.Exprs) → all_most es ≤ total (x ∷ [])
@@ -178,42 +184,65 @@ module _ (n : ℕ) (s : Scope) (l : ℕ) where
 
   -- declarations ----------------------------------------------------------------------------------
 
-  default_most : (i : Elem) (p : Place) → most (e.default_value i p) ≤ bodies_most + 7
-  default_most elem.Text p = omega arith
-  default_most (elem.Class c) p = omega arith
-  default_most _ p = omega arith
+  -- a first value makes so many steps beside those of its sizes or arguments
+  abbrev IsFirst : ℕ → Answer typed.Expr → Type 0
+  IsFirst k a = Ok (λ (x : typed.Expr). most x ≤ k + bodies_most + 7) a
+
+  first_if : (k : ℕ) (c : Bool) (a b : Answer typed.Expr) → IsFirst k a → IsFirst k b → IsFirst k (if c then a else b)
+  first_if k true a b first second = first
+  first_if k false a b first second = second
+
+  object_first : (t : Table) (i : Elem) (xs : List Typed) → IsFirst (total xs) (e.object_made t s l i xs)
+  object_first t i xs =
+      ok_map (λ (x : typed.Expr). most x ≤ total xs + object_most) (λ (x : typed.Expr). most x ≤ total xs + bodies_most + 7)
+      (e.object_made t s l i xs) (λ x few. omega (arith, few)) (object_made_most t s l i xs)
+
+  default_first : (t : Table) (i : Elem) → IsFirst 0 (e.default_value t s l i)
+  default_first t elem.Int = omega arith
+  default_first t elem.Float = omega arith
+  default_first t elem.Dur = omega arith
+  default_first t elem.Time = omega arith
+  default_first t elem.Text = omega arith
+  default_first t elem.Shred = omega arith
+  default_first t (elem.Class c) = object_first t (elem.Class c) []
+  default_first t (elem.Unit k) = object_first t (elem.Unit k) []
 
   null_most : (k : Kind) (p : Place) → most (e.null_of k p) ≤ 2
   null_most (One elem.Shred) p = omega arith
   null_most _ p = omega arith
 
-  first_value_most : (r : Bool) (k : Kind) (xs : List Typed) (p : Place)
-      → most (e.first_value r k xs p) ≤ total xs + bodies_most + 7
-  first_value_most r k (a ∷ b ∷ rest) p = omega arith
-  first_value_most r k (a ∷ []) p =
-      let i : Elem = e.elem_of k in
-      most_if (total (a ∷ []) + bodies_most + 7) (r || is_plain i)
-      (typed.Unary (unary.NewRow i) a.expr p) (typed.NewObjects i a.expr p) (omega arith)
-      (omega arith)
-  first_value_most false (One i) [] p = omega (arith, default_most i p)
-  first_value_most r k [] p = omega (arith, null_most k p)
+  row_first : (t : Table) (r : Bool) (i : Elem) (x : typed.Expr) → IsFirst (most x) (e.row_of t s l r i x)
+  row_first t r i x =
+      first_if (most x) (r || is_plain i) _ _ (omega arith)
+      (then_any (λ (y : typed.Expr). most y ≤ most x + bodies_most + 7) (e.maker_of t s l i) _ (λ f. omega arith))
 
-  declared_at_costs : (spot : Spot) (address : typed.Exprs) (r : Bool) (k : Kind)
-      (xs : List Typed) (p : Place) → all_most address ≤ 2 → total xs + 410 ≤ n
-      → cost (e.declared_at spot address r k xs p) ≤ n
-  declared_at_costs spot address r k xs p small few = omega (arith, first_value_most r k xs p)
+  first_value_first : (t : Table) (r : Bool) (k : Kind) (x : Making) → IsFirst (total_of x) (e.first_value t s l r k x)
+  first_value_first t r k (e.with_sizes (a ∷ b ∷ rest)) = omega arith
+  first_value_first t r k (e.with_sizes (a ∷ [])) =
+      ok_map (λ (x : typed.Expr). most x ≤ most a.expr + bodies_most + 7) (λ (x : typed.Expr). most x ≤ total (a ∷ []) + bodies_most + 7)
+      (e.row_of t s l r (e.elem_of k) a.expr) (λ x few. omega (arith, few)) (row_first t r (e.elem_of k) a.expr)
+  first_value_first t false (One i) (e.with_sizes []) = default_first t i
+  first_value_first t r k (e.with_sizes []) = omega (arith, null_most k (place s l))
+  first_value_first t r k (e.with_arguments xs) = object_first t (e.elem_of k) xs
 
-  declared_field_costs : (i : ℕ) (r : Bool) (k : Kind) (xs : List Typed) (this : Option ℕ)
-      → total xs + 410 ≤ n → Costs n (e.declared_field s l i r k xs this)
-  declared_field_costs i r k xs None few = tt
-  declared_field_costs i r k xs (Some this) few = declared_at_costs (spot.Field i)
-      (m.one (typed.Variadic (variadic.Read (spot.Local this)) typed.no_exprs (place s l))) r k xs
-      (place s l) (omega arith) few
+  declared_at_costs : (t : Table) (spot : Spot) (address : typed.Exprs) (r : Bool) (k : Kind)
+      (x : Making) → all_most address ≤ 2 → total_of x + 410 ≤ n
+      → Costs n (e.declared_at t s l spot address r k x)
+  declared_at_costs t spot address r k x small few =
+      ok_then (λ (y : typed.Expr). most y ≤ total_of x + bodies_most + 7) (λ (d : Denotation). cost d ≤ n)
+      (e.first_value t s l r k x) _ (first_value_first t r k x) (λ y first. omega (arith, first, small, few))
 
-  declared_member_costs : (t : Table) (h : DeclHead) (xs : List Typed) (x : Option Member)
-      → total xs + 410 ≤ n → Costs n (e.declared_member t s l h xs x)
+  declared_field_costs : (t : Table) (i : ℕ) (r : Bool) (k : Kind) (x : Making) (this : Option ℕ)
+      → total_of x + 410 ≤ n → Costs n (e.declared_field t s l i r k x this)
+  declared_field_costs t i r k x None few = tt
+  declared_field_costs t i r k x (Some this) few = declared_at_costs t (spot.Field i)
+      (m.one (typed.Variadic (variadic.Read (spot.Local this)) typed.no_exprs (place s l))) r k x
+      (omega arith) few
+
+  declared_member_costs : (t : Table) (h : DeclHead) (xs : Making) (x : Option Member)
+      → total_of xs + 410 ≤ n → Costs n (e.declared_member t s l h xs x)
   declared_member_costs t h xs (Some (member.Field i k)) few =
-      declared_field_costs i h.is_reference k xs (this_local t s) few
+      declared_field_costs t i h.is_reference k xs (this_local t s) few
   declared_member_costs t h xs (Some (member.Static i k)) few = omega arith
   declared_member_costs t h xs _ few = tt
 
@@ -249,15 +278,15 @@ comma_less (and_expr es x) = omega (arith, comma_less es)
 module _ (n : ℕ) (t : Table) where
   -- declarations ----------------------------------------------------------------------------------
 
-  variable_costs : (s : Scope) (l : ℕ) (h : DeclHead) (xs : List Typed) (v : Option Variable)
-      → total xs + 410 ≤ n → Ok (MeantCosts n) (e.declared_variable s l h xs v)
+  variable_costs : (s : Scope) (l : ℕ) (h : DeclHead) (xs : Making) (v : Option Variable)
+      → total_of xs + 410 ≤ n → Ok (MeantCosts n) (e.declared_variable t s l h xs v)
   variable_costs s l h xs None few = tt
   variable_costs s l h xs (Some v) few =
-      declared_at_costs n s l (spot.Static v.index) typed.no_exprs h.is_reference v.kind xs
-      (place s l) (omega arith) few
+      in_scope_costs n (reach s (v.index + 1)) _
+      (declared_at_costs n s l t (spot.Static v.index) typed.no_exprs h.is_reference v.kind xs (omega arith) few)
 
-  global_costs : (s : Scope) (l : ℕ) (h : DeclHead) (name : Name) (xs : List Typed)
-      (class : Option ℕ) → total xs + 410 ≤ n
+  global_costs : (s : Scope) (l : ℕ) (h : DeclHead) (name : Name) (xs : Making)
+      (class : Option ℕ) → total_of xs + 410 ≤ n
       → Ok (MeantCosts n) (e.declared_global t s l h name xs class)
   global_costs s l h name xs None few = variable_costs s l h xs (variable_named t s.file name) few
   global_costs s l h name xs (Some c) few =
@@ -268,21 +297,68 @@ module _ (n : ℕ) (t : Table) where
   ok_either true a b first second = first
   ok_either false a b first second = second
 
-  local_costs : (s : Scope) (l : ℕ) (h : DeclHead) (name : Name) (xs : List Typed)
-      (k : Option Kind) → total xs + 410 ≤ n
-      → Ok (MeantCosts n) (e.declared_local s l h name xs k)
+  local_costs : (s : Scope) (l : ℕ) (h : DeclHead) (name : Name) (xs : Making)
+      (k : Option Kind) → total_of xs + 410 ≤ n
+      → Ok (MeantCosts n) (e.declared_local t s l h name xs k)
   local_costs s l h name xs None few = tt
-  local_costs s l h name xs (Some k) few = ok_either (not (e.sizes_are_ints xs)) _ _ tt (ok_either h.is_static _ _ tt
-      (declared_at_costs n s l (spot.Local (length s.locals)) typed.no_exprs h.is_reference k xs
-      (place s l) (omega arith) few))
+  local_costs s l h name xs (Some k) few = ok_either (not (e.sizes_are_ints xs)) _ _ tt
+      (ok_then (λ (d : Denotation). cost d ≤ n) (MeantCosts n)
+      (e.declared_at t s l (spot.Local (length s.locals)) typed.no_exprs h.is_reference k xs) _
+      (declared_at_costs n s l t (spot.Local (length s.locals)) typed.no_exprs h.is_reference k xs (omega arith) few)
+      (λ d small. ok_either (e.has_place h xs) _ _ small tt))
 
-  declaration_costs : (s : Scope) (l : ℕ) (h : DeclHead) (name : Name) (bs : Brackets)
-      (xs : List Typed) → total xs + 410 ≤ n
-      → Ok (MeantCosts n) (e.declaration_meaning t s l h name bs xs)
-  declaration_costs s l h name bs xs few = ok_either (declares_globals s) _ _
-      (ok_either (e.sizes_are_ints xs) _ _ (global_costs s l h name xs s.class few) tt)
-      (ok_either (is_unknown (named_by t s.file h.base)) _ _ tt (ok_either (is_declared s name) _ _ tt
-      (local_costs s l h name xs (declared_kind h (named_by t s.file h.base) bs) few)))
+  auto_costs : (s : Scope) (l : ℕ) (h : DeclHead) (x : Declr) → Ok (MeantCosts n) (e.auto_meaning s l h x)
+  auto_costs s l h x = ok_either (not (declares_globals s) && is_declared s (declr_name x)) _ _ tt (omega arith)
+
+  based_costs : (s : Scope) (l : ℕ) (h : DeclHead) (x : Declr) (xs : Making) (base : Option Base)
+      → total_of xs + 410 ≤ n → Ok (MeantCosts n) (e.declared_with t s l h x xs base)
+  based_costs s l h x xs None few = auto_costs s l h x
+  based_costs s l h x xs (Some base) few = ok_either (declares_globals s) _ _
+      (ok_either (e.sizes_are_ints xs) _ _ (global_costs s l h (declr_name x) xs s.class few) tt)
+      (ok_either (is_unknown (named_by t s.file base)) _ _ tt (ok_either (is_declared s (declr_name x)) _ _ tt
+      (local_costs s l h (declr_name x) xs (written_kind h (named_by t s.file base) x) few)))
+
+  declaration_costs : (s : Scope) (l : ℕ) (h : DeclHead) (x : Declr) (xs : Making)
+      → total_of xs + 410 ≤ n → Ok (MeantCosts n) (e.declaration_meaning t s l h x xs)
+  declaration_costs s l h x xs few = based_costs s l h x xs h.base few
+
+  -- the chuck operator ----------------------------------------------------------------------------
+
+  auto_variable_costs : (s : Scope) (l k : ℕ) (x : Typed) (v : Option Variable)
+      → most x.expr + 4 ≤ n → Ok (MeantCosts n) (e.auto_variable s l k x v)
+  auto_variable_costs s l k x None few = tt
+  auto_variable_costs s l k x (Some v) few = ok_either (is_void (kind_now s v)) _ _ (omega arith) tt
+
+  auto_global_costs : (s : Scope) (l k : ℕ) (x : Typed) (name : Name) (c : Option ℕ)
+      → most x.expr + 4 ≤ n → Ok (MeantCosts n) (e.auto_global t s l k x name c)
+  auto_global_costs s l k x name None few =
+      auto_variable_costs s l k x (variable_named t s.file name) few
+  auto_global_costs s l k x name (Some c) few = tt
+
+  auto_declared_costs : (s : Scope) (l k : ℕ) (x : Typed) (name : Name)
+      → most x.expr + 4 ≤ n → Ok (MeantCosts n) (e.auto_declared t s l k x name)
+  auto_declared_costs s l k x name few = ok_either (declares_globals s) _ _
+      (auto_global_costs s l k x name s.class few)
+      (ok_either (is_declared s name) _ _ tt (omega arith))
+
+  auto_assigned_costs : (s : Scope) (l k : ℕ) (r : Bool) (x : Typed) (name : Name) (has_form : Bool)
+      → most x.expr + 4 ≤ n → Ok (MeantCosts n) (e.auto_assigned t s l k r x name has_form)
+  auto_assigned_costs s l k r x name has_form few = ok_either (e.is_no_type x.kind) _ _ tt
+      (ok_either (not has_form) _ _ tt (ok_either (not r && are_references x.kind) _ _ tt
+      (auto_declared_costs s l k x name few)))
+
+  auto_chucked_costs : (s : Scope) (l k : ℕ) (o : ChuckOp) (x : Typed) (name : Name) (has_form : Bool)
+      → most x.expr + 4 ≤ n → Ok (MeantCosts n) (e.auto_chucked t s l k o x name has_form)
+  auto_chucked_costs s l k chuck_op.Chuck x name has_form few = auto_assigned_costs s l k false x name has_form few
+  auto_chucked_costs s l k chuck_op.Assign x name has_form few = auto_assigned_costs s l k true x name has_form few
+  auto_chucked_costs s l k _ x name has_form few = tt
+
+  chucked_costs : (s : Scope) (l : ℕ) (o : ChuckOp) (x : Typed) (b : Expr) (y : Denotation)
+      → most x.expr + cost y + 6 ≤ n → Ok (MeantCosts n) (e.chucked t s l o x b y)
+  chucked_costs s l o x b (m.an_auto name has_form) few = auto_chucked_costs s l (expr_line b) o x name has_form (omega arith)
+  chucked_costs s l o x b y few =
+      in_scope_costs n s _ (costs_if n (e.is_now b) _ _
+      (now_costs n s l t.parents o x (omega arith)) (chuck_costs n s l t (expr_line b) o x y few))
 
 -- so many tokens' steps of what an expression means, of its value, and of values
 abbrev pub MeansWithin : (tokens : ℕ) → Meant → Type 0
@@ -367,8 +443,13 @@ module _ (t : Table) where
         let all = bracketed_size xs + 2 in
         ok_then (AllWithin (exprs_size xs)) (MeansWithin all) (values t s xs) _ (values_cost s xs) (λ ys few.
         in_scope_costs (token_steps * all) ys.scope _
-        (new_costs (token_steps * all) ys.scope l (named_by t ys.scope.file b) ys.typed
+        (new_costs (token_steps * all) ys.scope l t (named_by t ys.scope.file b) ys.typed
         (omega (arith, exprs_less xs, comma_less xs))))
+    meaning_costs s (tree.new_with l b xs) =
+        let all = exprs_size xs + 4 in
+        ok_then (AllWithin (exprs_size xs)) (MeansWithin all) (values t s xs) _ (values_cost s xs) (λ ys few.
+        in_scope_costs (token_steps * all) ys.scope _
+        (new_with_costs (token_steps * all) ys.scope l t (named_by t ys.scope.file b) ys.typed (omega arith)))
     meaning_costs s (tree.spork l (tree.call k f xs)) =
         let all = expr_size f + exprs_size xs + 2 + 2 in
         ok_then (MeansWithin (expr_size f)) (MeansWithin all) (meaning t s f) _ (meaning_costs s f) (λ y few.
@@ -402,17 +483,17 @@ module _ (t : Table) where
     meaning_costs s (tree.declare l h (declr name bs)) =
         let all = expr_size (tree.declare l h (declr name bs)) in
         ok_then (AllWithin (brackets_size bs)) (MeansWithin all) (sizes t s bs) _ (sizes_cost s bs) (λ xs few.
-        declaration_costs (token_steps * all) t xs.scope l h name bs xs.typed (omega arith))
+        declaration_costs (token_steps * all) t xs.scope l h (declr name bs) (e.with_sizes xs.typed) (omega arith))
+    meaning_costs s (tree.declare l h (declr_with name es)) =
+        let all = expr_size (tree.declare l h (declr_with name es)) in
+        ok_then (AllWithin (exprs_size es)) (MeansWithin all) (values t s es) _ (values_cost s es) (λ xs few.
+        declaration_costs (token_steps * all) t xs.scope l h (declr_with name es) (e.with_arguments xs.typed) (omega arith))
     meaning_costs s (tree.chuck l a o b) =
         let all = expr_size a + expr_size b + 1 in
         after_value s a all _ (meaning_costs s a) (λ x few.
         ok_then (MeansWithin (expr_size b)) (MeansWithin all) (meaning t x.scope b) _
         (meaning_costs x.scope b) (λ y less.
-        in_scope_costs (token_steps * all) y.scope _
-        (costs_if (token_steps * all) (e.is_now b) _ _
-        (now_costs (token_steps * all) y.scope l t.parents o x.typed (omega arith))
-        (chuck_costs (token_steps * all) y.scope l t (expr_line b) o x.typed y.means
-        (omega arith)))))
+        chucked_costs (token_steps * all) t y.scope l o x.typed b y.means (omega arith)))
 
     pub values_cost : (s : Scope) (xs : Exprs) → Ok (AllWithin (exprs_size xs)) (values t s xs)
     values_cost s no_exprs = omega arith
@@ -437,4 +518,9 @@ module _ (t : Table) where
       let all = brackets_size bs + 1 in
       value_of_costs (token_steps * all) l (meaning t s (tree.declare l h (declr name bs)))
       (ok_then (AllWithin (brackets_size bs)) (MeansWithin all) (sizes t s bs) _ (sizes_cost s bs) (λ xs few.
-      declaration_costs (token_steps * all) t xs.scope l h name bs xs.typed (omega arith)))
+      declaration_costs (token_steps * all) t xs.scope l h (declr name bs) (e.with_sizes xs.typed) (omega arith)))
+  declared_costs s l h (declr_with name es) =
+      let all = exprs_size es + 3 in
+      value_of_costs (token_steps * all) l (meaning t s (tree.declare l h (declr_with name es)))
+      (ok_then (AllWithin (exprs_size es)) (MeansWithin all) (values t s es) _ (values_cost s es) (λ xs few.
+      declaration_costs (token_steps * all) t xs.scope l h (declr_with name es) (e.with_arguments xs.typed) (omega arith)))

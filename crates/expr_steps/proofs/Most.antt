@@ -15,9 +15,9 @@ use Rattle.ck_typed.specs.declared.operation.Binary.TheVariants as binary
 use Rattle.ck_typed.specs.declared.operation.Variadic.{Variadic as OfMany}
 use Rattle.ck_typed.specs.declared.operation.Variadic.TheVariants as variadic
 use Rattle.ck_typed.specs.Tree.{Expr, Exprs, no_exprs, more_exprs, Leaf, Text, Unary, Binary, Variadic, And, Or}
-use Rattle.ck_typed.specs.Tree.{Choice, Assign, AssignDeclared, Update, Prefix, Postfix, New, NewObjects, CallOf}
+use Rattle.ck_typed.specs.Tree.{Choice, Assign, AssignDeclared, Update, Prefix, Postfix, New, NewObjects, Construct, CallOf}
 use Rattle.ck_typed.specs.Tree.{SporkOf, Stmt, Stmts, no_stmts, more_stmts, Simple, Block, Print, If, Loop, LoopLast}
-use Rattle.ck_typed.specs.Tree.{For, ForEver, Repeat, Break, Continue, Return, Fun}
+use Rattle.ck_typed.specs.Tree.{For, ForEver, Repeat, ForEach, Break, Continue, Return, Fun}
 use Rattle.ck_code.specs.declared.code.Step.{Step}
 use Rattle.ck_scheme.specs.Scheme.{bodies_end, spot_end, test_end, expr_end, args_end, stmt_end, block_end}
 use Rattle.ck_scheme.specs.Scheme.{body_code}
@@ -44,7 +44,8 @@ abbrev mutual
   most (Prefix direction spot address place) = all_most address + 3
   most (Postfix direction spot address place) = all_most address + 5
   most (New c place) = bodies_most + 1
-  most (NewObjects e n place) = most n + bodies_most + 7
+  most (NewObjects e n constructor place) = most n + bodies_most + 7
+  most (Construct o f arguments place) = most o + all_most arguments + 3
   most (CallOf o f arguments place) = most o + all_most arguments + 2
   most (SporkOf o f arguments place) = most o + all_most arguments + 2
 
@@ -67,6 +68,7 @@ abbrev mutual
   stmt_most (For start c step body place) = stmt_most start + most c + stmt_most step + stmt_most body + 3
   stmt_most (ForEver start step body place) = stmt_most start + stmt_most step + stmt_most body + 2
   stmt_most (Repeat count body place) = most count + stmt_most body + 9
+  stmt_most (ForEach array local widens body place) = most array + stmt_most body + 9
   stmt_most (Break place) = 1
   stmt_most (Continue place) = 1
   stmt_most (Return e place) = most e + 1
@@ -140,11 +142,12 @@ module _ (classes : List Class) (few : (c : ℕ) → length (bodies_of classes c
     expr_within (Postfix direction spot address place) p =
         omega (arith, args_within address (p + 1), spot_within spot (args_end classes (p + 1) address))
     expr_within (New c place) p = omega (arith, bodies_are (bodies_of classes c) (p + 1), few c)
-    expr_within (NewObjects (elem.Class c) n place) p =
+    expr_within (NewObjects (elem.Class c) n constructor place) p =
         let round = expr_end classes p n + 1 + 1 in
         omega (arith, expr_within n p, bodies_are (bodies_of classes c) (round + 1 + 1 + 1), few c)
-    expr_within (NewObjects (elem.Unit kind) n place) p = omega (arith, expr_within n p)
-    expr_within (NewObjects _ n place) p = omega arith
+    expr_within (NewObjects (elem.Unit kind) n constructor place) p = omega (arith, expr_within n p)
+    expr_within (NewObjects _ n constructor place) p = omega arith
+    expr_within (Construct o f arguments place) p = omega (arith, expr_within o p)
     expr_within (CallOf o f arguments place) p =
         omega (arith, expr_within o p, args_within arguments (expr_end classes p o + 1))
     expr_within (SporkOf o f arguments place) p =
@@ -185,6 +188,7 @@ module _ (classes : List Class) (few : (c : ℕ) → length (bodies_of classes c
         omega (arith, stmt_within start p, stmt_within body first, stmt_within step (stmt_end classes first body))
     stmt_within (Repeat count body place) p =
         omega (arith, expr_within count p, stmt_within body (expr_end classes p count + 1 + 1 + 1 + 1 + 1))
+    stmt_within (ForEach array local widens body place) p = omega arith
     stmt_within (Break place) p = omega arith
     stmt_within (Continue place) p = omega arith
     stmt_within (Return e place) p = omega (arith, expr_within e p)

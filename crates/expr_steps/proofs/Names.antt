@@ -121,6 +121,7 @@ module _ (n : ℕ) (t : Table) (s : Scope) (l : ℕ) where
   object_costs o c name (Some (member.Static i k)) few = omega arith
   object_costs o c name (Some (member.Fun f None)) few = omega arith
   object_costs o c name (Some (member.Fun f (Some k))) few = omega arith
+  object_costs o c name (Some member.Auto) few = tt
   object_costs o c name None few = costs_if n (is_event_call t c name) _ _ (omega arith) tt
 
   ugen_costs : (o : typed.Expr) (k : UgenKind) (name : Name) → most o ≤ n → Costs n (m.ugen_meaning s l o k name)

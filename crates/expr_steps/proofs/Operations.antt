@@ -31,16 +31,49 @@ use Rattle.type_rules.specs.Parameters.{Settable}
 use Rattle.type_rules.specs.declared.operators.Joined.{Joined}
 use Rattle.type_table.specs.declared.types.Named.{Named}
 use Rattle.type_table.specs.declared.types.Named.TheVariants as named
-use Rattle.type_table.specs.Table.{Table, fun_of}
+use Rattle.type_table.specs.Table.{Table, fun_of, construct}
 use Rattle.type_table.specs.Types.{is_unknown, is_plain, value_kind}
 use Rattle.check_scope.specs.Denotations.{Typed, Callee, numbered, through, method, native, native_on, param, yields}
 use Rattle.check_scope.specs.Denotations.{exits, Denotation, at, callable, as_value}
 use Rattle.check_scope.specs.Operations as e
 use Rattle.check_scope.specs.Scope.{Scope, place, this_local}
-use Rattle.expr_laws.proofs.Oks.{ok_then}
+use Rattle.expr_laws.proofs.Oks.{ok_then, ok_map}
+use Rattle.expr_laws.proofs.Premises.{Ok}
 use Rattle.expr_steps.proofs.Costs.{receiver_most, cost, total, Costs, costs_if, then_any, value_costs, taken_most}
 use Rattle.expr_steps.proofs.Costs.{widened_most, beside_most, taken_total, fitted_total}
-use Rattle.expr_steps.proofs.Most.{most, all_most}
+use Rattle.expr_steps.proofs.Most.{bodies_most, most, all_most}
+
+-- objects -----------------------------------------------------------------------------------------
+
+-- the steps of an object that is made, beside those of its arguments
+abbrev pub object_most : ℕ
+object_most = bodies_most + 4
+
+constructed_most : (s : Scope) (l : ℕ) (o : typed.Expr) (f : ℕ) (xs : List Typed) (es : Option typed.Exprs)
+    → IfSome es (λ es. all_most es ≤ total xs)
+    → Ok (λ (x : typed.Expr). most x ≤ most o + total xs + 3) (e.constructed s l o f es)
+constructed_most s l o f xs None are = tt
+constructed_most s l o f xs (Some es) are = omega (arith, are)
+
+made_by_most : (t : Table) (s : Scope) (l : ℕ) (o : typed.Expr) (xs : List Typed) (c : Option ℕ)
+    → Ok (λ (x : typed.Expr). most x ≤ most o + total xs + 3) (e.made_by t s l o xs c)
+made_by_most t s l o [] None = omega arith
+made_by_most t s l o (x ∷ xs) None = tt
+made_by_most t s l o xs (Some f) =
+    constructed_most s l o f xs (e.fitted t.parents xs (fun_of t f).params) (fitted_total t.parents xs (fun_of t f).params)
+
+pub object_made_most : (t : Table) (s : Scope) (l : ℕ) (i : Elem) (xs : List Typed)
+    → Ok (λ (x : typed.Expr). most x ≤ total xs + object_most) (e.object_made t s l i xs)
+object_made_most t s l (elem.Class c) xs =
+    ok_map (λ (x : typed.Expr). most x ≤ most (typed.New c (place s l)) + total xs + 3) (λ (x : typed.Expr). most x ≤ total xs + object_most)
+    (e.made_by t s l (typed.New c (place s l)) xs (construct t c)) (λ x few. omega (arith, few))
+    (made_by_most t s l (typed.New c (place s l)) xs (construct t c))
+object_made_most t s l (elem.Unit UGen) xs = tt
+object_made_most t s l (elem.Unit k) xs =
+    ok_map (λ (x : typed.Expr). most x ≤ 2 + total xs + 3) (λ (x : typed.Expr). most x ≤ total xs + object_most)
+    (e.made_by t s l (typed.Leaf (leaf.NewUgen k) (place s l)) xs None) (λ x few. omega (arith, few))
+    (made_by_most t s l (typed.Leaf (leaf.NewUgen k) (place s l)) xs None)
+object_made_most t s l _ xs = tt
 
 module _ (n : ℕ) (s : Scope) (l : ℕ) where
   -- words -----------------------------------------------------------------------------------------
@@ -203,22 +236,26 @@ module _ (n : ℕ) (s : Scope) (l : ℕ) where
 
   -- `new` -----------------------------------------------------------------------------------------
 
-  new_object_costs : (i : Elem) → 400 ≤ n → Costs n (e.new_object s l i)
-  new_object_costs (elem.Class c) few = omega arith
-  new_object_costs (elem.Unit UGen) few = tt
-  new_object_costs (elem.Unit k) few = omega arith
-  new_object_costs _ few = tt
+  new_object_costs : (t : Table) (i : Elem) (xs : List Typed) → total xs + 400 ≤ n → Costs n (e.new_object t s l i xs)
+  new_object_costs t i xs few =
+      ok_then (λ (x : typed.Expr). most x ≤ total xs + object_most) (λ (y : Denotation). cost y ≤ n)
+      (e.object_made t s l i xs) _ (object_made_most t s l i xs) (λ x small. omega (arith, small))
 
-  new_array_costs : (i : Elem) (sizes : List Typed) → total sizes + 400 ≤ n → Costs n (e.new_array s l i sizes)
-  new_array_costs i [] few = new_object_costs i (omega arith)
-  new_array_costs i (a ∷ []) few = costs_if n (e.is_new_item i && e.is_int a.kind) _ _ (omega arith) tt
-  new_array_costs i (a ∷ b ∷ []) few = costs_if n (e.is_new_item i && e.are_ints a b) _ _ (omega arith) tt
-  new_array_costs i _ few = tt
+  new_array_costs : (t : Table) (i : Elem) (sizes : List Typed) → total sizes + 400 ≤ n → Costs n (e.new_array t s l i sizes)
+  new_array_costs t i [] few = new_object_costs t i [] few
+  new_array_costs t i (a ∷ []) few = costs_if n (e.is_new_item i && e.is_int a.kind) _ _ (omega arith) tt
+  new_array_costs t i (a ∷ b ∷ []) few = costs_if n (e.is_new_item i && e.are_ints a b) _ _ (omega arith) tt
+  new_array_costs t i _ few = tt
 
-  pub new_costs : (w : Named) (sizes : List Typed) → total sizes + 400 ≤ n → Costs n (e.new_meaning s l w sizes)
-  new_costs named.Unknown sizes few = tt
-  new_costs (named.Elem i) sizes few = new_array_costs i sizes few
-  new_costs _ sizes few = tt
+  pub new_costs : (t : Table) (w : Named) (sizes : List Typed) → total sizes + 400 ≤ n → Costs n (e.new_meaning t s l w sizes)
+  new_costs t named.Unknown sizes few = tt
+  new_costs t (named.Elem i) sizes few = new_array_costs t i sizes few
+  new_costs t _ sizes few = tt
+
+  pub new_with_costs : (t : Table) (w : Named) (xs : List Typed) → total xs + 400 ≤ n → Costs n (e.new_with_meaning t s l w xs)
+  new_with_costs t named.Unknown xs few = tt
+  new_with_costs t (named.Elem i) xs few = new_object_costs t i xs few
+  new_with_costs t _ xs few = tt
 
   -- calls -----------------------------------------------------------------------------------------
 

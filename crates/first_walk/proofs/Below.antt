@@ -1,5 +1,5 @@
 -- Which classes stand above one, and that the functions in its slots are theirs.
-use Rattle.std.proofs.Common.{◌≡◌, ℕ, zero, suc, ◌<◌, Bool, true, false, ◌||◌, nat_eq, List, [], ◌∷◌, slice_get, Option, Some, refl, sym, subst}
+use Rattle.std.proofs.Common.{◌≡◌, ℕ, zero, suc, ◌<◌, Bool, true, false, ◌||◌, nat_eq, List, [], ◌∷◌, slice_get, Option, Some, None, refl, sym, subst}
 use Rattle.std.proofs.lemmas.Bool.{eqb-true}
 use Rattle.ck_base.specs.declared.limits.TheConstants.{MAX_ANCESTORS}
 use Rattle.ck_syntax.specs.Tree.{Name}
@@ -8,11 +8,12 @@ use Rattle.type_table.specs.declared.class.Own.{Own}
 use Rattle.type_table.specs.declared.class.Own.TheVariants as own
 use Rattle.type_table.specs.declared.class.Dispatch.TheVariants as by
 use Rattle.type_table.specs.Finished.{all_slots, with_own, with_all}
-use Rattle.type_table.specs.Table.{Table, class_of, line, parent, slot_in}
+use Rattle.type_table.specs.Table.{Table, class_of, line, parent, slot_in, construct, construct_in}
 use Rattle.first_walk.proofs.Lines.{line_0, line_up, for_all, parent_is, parent_in, object_in}
 use Rattle.first_walk.proofs.Places.{each_also, each_append, each_set}
+use Rattle.type_table.proofs.ListFacts.{Holds, holds_at, holds_else, holds_map}
 use Rattle.type_table.proofs.Ranges.{Each, many}
-use Rattle.first_walk.proofs.TableFacts.{IsOwn, IsTable}
+use Rattle.first_walk.proofs.TableFacts.{IsOwn, IsConstructorOf, IsTable}
 
 -- a class, and those above it
 pub data IsBelowBy (parents : List ℕ) : ℕ → ℕ → Type 0 where
@@ -75,3 +76,25 @@ module _ (t : Table) (owners : List (Option ℕ)) (is : IsTable t owners) where
       (λ c lt other each. subst (λ l. Each (IsAbove c) (all_slots t l)) (sym (line_up t owners is c lt other))
       (above_all c lt (line t (parent t c))
       (each_also (IsAbove (parent t c)) (IsAbove c) (λ f above. (above.0, above.1, up (parent t c) (parent_is t owners is c lt) above.2)) (all_slots t (line t (parent t c))) each)))
+
+  -- constructors ----------------------------------------------------------------------------------
+
+  above_constructor : (c : ℕ) (o : Option ℕ) → IsConstructorOf owners c o → Holds (IsAbove c) o
+  above_constructor c None is = tt
+  above_constructor c (Some f) is = (c, is, itself)
+
+  above_maker : (c : ℕ) → c < many t → (above : List ℕ) → Holds (IsAbove c) (construct_in t above) → Holds (IsAbove c) (construct_in t (c ∷ above))
+  above_maker c lt above holds =
+      holds_else (IsAbove c) (class_of t c).constructor (construct_in t above)
+      (above_constructor c (class_of t c).constructor (is.classes c lt).constructor_is) holds
+
+  makers_are : (c : ℕ) → c < many t → Holds (IsAbove c) (construct_in t (line t c))
+  makers_are = for_all t owners is (λ c. Holds (IsAbove c) (construct_in t (line t c)))
+      (subst (λ l. Holds (IsAbove 0) (construct_in t l)) (sym (line_0 t owners is)) (above_maker 0 (object_in t owners is) [] tt))
+      (λ c lt other holds. subst (λ l. Holds (IsAbove c) (construct_in t l)) (sym (line_up t owners is c lt other))
+      (above_maker c lt (line t (parent t c))
+      (holds_map (IsAbove (parent t c)) (IsAbove c) (λ f above. (above.0, above.1, up (parent t c) (parent_is t owners is c lt) above.2)) (construct_in t (line t (parent t c))) holds)))
+
+  -- what makes the objects of a class takes one of that class, or of a class above it
+  pub maker_is : (c f : ℕ) → c < many t → construct t c ≡ Some f → (a : ℕ) × (slice_get owners f ≡ Some (Some a)) × IsBelowBy t.parents c a
+  maker_is c f lt found = holds_at (IsAbove c) (construct t c) f found (makers_are c lt)

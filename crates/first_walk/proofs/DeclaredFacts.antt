@@ -120,6 +120,7 @@ module _ (f : ℕ) where
     where
       same : many (with_head f c t (fun_member (tree.fun l s result n ps body))) ≡ many t
       same = length-set t.classes c (record (class_of t c) { heads = and_first n (head_of t f (tree.fun l s result n ps body)) (class_of t c).heads })
+  head_ready c t (fun_member (tree.constructor l ps body)) is = is
   head_ready c t (stmt_member s) is = is
 
   heads_of_ready : (c : ℕ) (t : Table) (ms : Members) → FileReady f t → FileReady f (with_heads_of f c t ms)

@@ -3,14 +3,14 @@
 use Rattle.std.specs.Prelude.{ℕ, Option, Some, None}
 use Rattle.ck_syntax.specs.declared.declaration.DeclHead.{DeclHead}
 use Rattle.ck_syntax.specs.Tree as tree
-use Rattle.ck_syntax.specs.Tree.{Expr, Declrs, no_declrs, and_declr, declr, Stmt, Members, no_members, and_member, fun_member, stmt_member, no_items, and_item, class_item, fun_item, stmt_item}
+use Rattle.ck_syntax.specs.Tree.{Expr, Declrs, no_declrs, and_declr, Stmt, Members, no_members, and_member, fun_member, stmt_member, no_items, and_item, class_item, fun_item, stmt_item}
 use Rattle.type_table.specs.Table.{Table}
-use Rattle.type_table.proofs.Declared.{Declared, AllDeclared, SizesDeclared, IsDeclared}
+use Rattle.type_table.proofs.Declared.{Declared, AllDeclared, BehindDeclared, IsDeclared}
 use Rattle.first_walk.specs.FirstWalk.{own_class}
 
 abbrev pub ListDeclared : Table → (file : ℕ) → (class : Option ℕ) → DeclHead → Declrs → Type 0
 ListDeclared t f o h no_declrs = Unit {0}
-ListDeclared t f o h (and_declr ds (declr n bs)) = ListDeclared t f o h ds × SizesDeclared t f o bs × IsDeclared t f o h n bs
+ListDeclared t f o h (and_declr ds x) = ListDeclared t f o h ds × BehindDeclared t f o x × IsDeclared t f o h x
 
 abbrev pub OptionDeclared : Table → (file : ℕ) → (class : Option ℕ) → Option Expr → Type 0
 OptionDeclared t f o None = Unit {0}

@@ -3,11 +3,11 @@
 use Rattle.std.proofs.Common.{◌≡◌, ℕ, zero, suc, ◌<◌, Bool, true, false, List, [], ◌∷◌, ◌++◌, length, Option, Some, None, nat_lt, slice_get, slice_set, if◌then◌else◌, refl, ap, ◌∙◌, arith}
 use Rattle.std.specs.Str.{bytes_eq}
 use Rattle.std.proofs.lemmas.Slice.Eq.{bytes_eq-Decides}
+use Rattle.ck_values.specs.declared.kind.Kind.{Kind}
 use Rattle.ck_syntax.specs.declared.declaration.Base.{Base}
 use Rattle.ck_syntax.specs.declared.declaration.Base.TheVariants as base
 use Rattle.ck_syntax.specs.Tree.{Name}
 use Rattle.type_table.specs.declared.class.Own.{Own}
-use Rattle.type_table.specs.declared.table.Variable.{Variable}
 use Rattle.first_walk.specs.FirstWalk.{or_object, own_class}
 use Rattle.type_table.specs.Names.{lookup, is_some, or_else, as_class, built_in, and_first}
 use Rattle.type_table.specs.Table.{Table, file_of, class_of, class_named, seen_from}
@@ -61,7 +61,8 @@ pub record Keeps (f : ℕ) (t u : Table) : Type 0 where
   pub publics : u.publics ≡ t.publics
   pub homes : (c : ℕ) → (class_of u c).file ≡ (class_of t c).file
   pub classes : (file_of u f).classes ≡ (file_of t f).classes
-  pub variables : (n : Name) (v : Variable) → lookup n (file_of t f).variables ≡ Some v → lookup n (file_of u f).variables ≡ Some v
+  pub variables : (n : Name) (i : ℕ) → lookup n (file_of t f).variables ≡ Some i → lookup n (file_of u f).variables ≡ Some i
+  pub statics : (i : ℕ) (k : Kind) → slice_get t.statics i ≡ Some k → slice_get u.statics i ≡ Some k
   pub members : (c : ℕ) (n : Name) (o : Own) → lookup n (class_of t c).members ≡ Some o → lookup n (class_of u c).members ≡ Some o
 
 module _ (f : ℕ) where
@@ -74,6 +75,7 @@ module _ (f : ℕ) where
     homes = λ c. refl;
     classes = refl;
     variables = λ n v is. is;
+    statics = λ i k is. is;
     members = λ c n o is. is;
   }
 
@@ -86,6 +88,7 @@ module _ (f : ℕ) where
     homes = λ c. b.homes c ∙ a.homes c;
     classes = b.classes ∙ a.classes;
     variables = λ n w is. b.variables n w (a.variables n w is);
+    statics = λ i k is. b.statics i k (a.statics i k is);
     members = λ c n o is. b.members c n o (a.members c n o is);
   }
 

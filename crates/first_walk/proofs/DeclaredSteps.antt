@@ -4,22 +4,21 @@ use Rattle.std.specs.List.{list_any}
 use Rattle.std.proofs.lemmas.List.{length-set}
 use Rattle.ck_values.specs.declared.kind.Kind.{Kind}
 use Rattle.ck_base.specs.declared.limits.TheConstants.{MAX_ANCESTORS}
-use Rattle.ck_syntax.specs.Tree.{Name, Fun, fun, Members}
+use Rattle.ck_syntax.specs.Tree.{Name, Fun, fun, constructor, Members}
 use Rattle.type_table.specs.declared.class.Dispatch.{Dispatch}
 use Rattle.type_table.specs.declared.class.Own.{Own}
 use Rattle.type_table.specs.declared.class.Own.TheVariants as own
 use Rattle.type_table.specs.declared.fault.FaultKind.TheVariants.{UnknownName, Duplicate, BadClass, BadPlace}
-use Rattle.type_table.specs.declared.table.Variable.{Variable}
 use Rattle.type_table.specs.Answer.{Answer, gives, refused, and_then, wrong}
-use Rattle.first_walk.specs.FirstWalk.{with_class, is_name_taken, with_member, may_override, slots_with, with_dispatch, with_method, new_dispatch, old_dispatch, enter_beside, enter_method_head, enter_method, has_unknown, head_of, with_fun, enter_fun_head, enter_fun, next_static, with_variable, with_static, with_field, has_statement, with_body}
+use Rattle.first_walk.specs.FirstWalk.{with_class, is_name_taken, with_member, may_override, slots_with, with_dispatch, with_method, new_dispatch, old_dispatch, enter_beside, enter_method_head, with_constructor, enter_constructor_head, enter_method, refuse_constructor, has_unknown, head_of, with_fun, enter_fun_head, enter_fun, next_static, with_variable, with_static, with_field, has_statement, with_body}
 use Rattle.type_table.specs.NameClash.{is_other, has_other, is_taken_below, is_event_call, is_member_taken}
 use Rattle.type_table.specs.Names.{lookup, is_some, and_first}
 use Rattle.type_table.specs.declared.class.Class.{Class}
 use Rattle.type_table.specs.declared.class.FileNames.{FileNames as File}
 use Rattle.type_table.specs.declared.class.Head.{Head}
-use Rattle.type_table.specs.Table.{Table, or_no_class, or_no_file, plain_head, file_of, class_of, line, line_by, line_within, as_member, own_member, member_in, member_named, variable_named, and_own, ancestors, overridden}
-use Rattle.type_table.proofs.Ranges.{many}
-use Rattle.type_table.proofs.ListFacts.{kept_at}
+use Rattle.type_table.specs.Table.{Table, or_no_class, or_no_file, plain_head, file_of, class_of, line, line_by, line_within, as_member, own_member, member_in, member_named, and_own, ancestors, overridden}
+use Rattle.type_table.proofs.Ranges.{Within, many}
+use Rattle.type_table.proofs.ListFacts.{kept_at, get_within, within_same}
 use Rattle.first_walk.proofs.DeclaredFrame.{changed_at, first_stays, first_found, Keeps, keeps_self, keeps_then}
 
 -- answers -----------------------------------------------------------------------------------------
@@ -58,14 +57,15 @@ module _ (f : ℕ) where
     homes = λ d. kept_at (λ y. (or_no_class y).file ≡ (class_of t d).file) t.classes c d x (λ was. home ∙ was) refl;
     classes = refl;
     variables = λ n v is. is;
+    statics = λ i k is. is;
     members = λ d n o is. kept_at (λ y. lookup n (or_no_class y).members ≡ Some o) t.classes c d x (members n o) is;
   }
 
   -- the file changes but for its classes, and loses no variable
   pub keeps_file : (t : Table) (funs : List Head) (statics : List Kind) (x : File) → x.classes ≡ (file_of t f).classes
-      → ((n : Name) (v : Variable) → lookup n (file_of t f).variables ≡ Some v → lookup n x.variables ≡ Some v)
+      → ((n : Name) (v : ℕ) → lookup n (file_of t f).variables ≡ Some v → lookup n x.variables ≡ Some v) → Within t.statics statics
       → Keeps f t (record t { files = slice_set t.files f x; funs = funs; statics = statics })
-  keeps_file t funs statics x classes variables = record {
+  keeps_file t funs statics x classes variables more = record {
     many_classes = refl;
     many_files = length-set t.files f x;
     parents = refl;
@@ -73,12 +73,13 @@ module _ (f : ℕ) where
     homes = λ c. refl;
     classes = kept_at (λ y. (or_no_file y).classes ≡ (file_of t f).classes) t.files f f x (λ was. classes ∙ was) refl;
     variables = λ n v is. kept_at (λ y. lookup n (or_no_file y).variables ≡ Some v) t.files f f x (variables n v) is;
+    statics = λ i k is. get_within t.statics statics i k more is;
     members = λ c n o is. is;
   }
 
   -- functions and statics alone change
-  pub keeps_others : (t : Table) (funs : List Head) (statics : List Kind) → Keeps f t (record t { funs = funs; statics = statics })
-  keeps_others t funs statics = record {
+  pub keeps_others : (t : Table) (funs : List Head) (statics : List Kind) → Within t.statics statics → Keeps f t (record t { funs = funs; statics = statics })
+  keeps_others t funs statics more = record {
     many_classes = refl;
     many_files = refl;
     parents = refl;
@@ -86,6 +87,7 @@ module _ (f : ℕ) where
     homes = λ c. refl;
     classes = refl;
     variables = λ n v is. is;
+    statics = λ i k is. get_within t.statics statics i k more is;
     members = λ c n o is. is;
   }
 
@@ -104,7 +106,7 @@ module _ (f : ℕ) where
   keeps_method t c n h d = keeps_then f t (with_dispatch t c h d) (with_method t c n h d) (keeps_dispatch t c h d) (keeps_member (with_dispatch t c h d) c n (own.Fun (length t.funs) d))
 
   keeps_fun : (t : Table) (n : Name) (h : Head) → Keeps f t (with_fun t f n h)
-  keeps_fun t n h = keeps_file t (t.funs ++ h ∷ []) t.statics (record (file_of t f) { funs = and_first n (length t.funs) (file_of t f).funs }) refl (λ m v is. is)
+  keeps_fun t n h = keeps_file t (t.funs ++ h ∷ []) t.statics (record (file_of t f) { funs = and_first n (length t.funs) (file_of t f).funs }) refl (λ m v is. is) (within_same t.statics)
 
   -- the function of the statements in a class's braces
   pub keeps_body : (t : Table) (c : ℕ) (ms : Members) → Keeps f t (with_body t c ms)
@@ -113,6 +115,18 @@ module _ (f : ℕ) where
       go : (b : Bool) → Keeps f t (if b then record t { funs = t.funs ++ plain_head false ∷ []; classes = slice_set t.classes c (record (class_of t c) { body = Some (length t.funs) }) } else t)
       go true = keeps_class t (t.funs ++ plain_head false ∷ []) c (record (class_of t c) { body = Some (length t.funs) }) refl (λ m o is. is)
       go false = keeps_self f t
+
+  -- a constructor
+  keeps_constructor : (t : Table) (c : ℕ) (h : Head) → Keeps f t (with_constructor t c h)
+  keeps_constructor t c h = keeps_class t (t.funs ++ h ∷ []) c (record (class_of t c) { constructor = Some (length t.funs) }) refl (λ m o is. is)
+
+  constructor_head_keeps : (t : Table) (l c : ℕ) (h : Option Head) → GivesSuch (Keeps f t) (enter_constructor_head t f l c h)
+  constructor_head_keeps t l c None = tt
+  constructor_head_keeps t l c (Some h) = keeps_constructor t c h
+
+  refused_keeps : (t : Table) (l : ℕ) (h : Option Head) → GivesSuch (Keeps f t) (refuse_constructor f l h)
+  refused_keeps t l None = tt
+  refused_keeps t l (Some h) = tt
 
   beside_keeps : (t : Table) (l c : ℕ) (n : Name) (h : Head) (old : Option (Option Head)) → GivesSuch (Keeps f t) (enter_beside t f l c n h old)
   beside_keeps t l c n h None = keeps_method t c n h (new_dispatch (class_of t c) h)
@@ -135,6 +149,12 @@ module _ (f : ℕ) where
 
       entered : Answer Table
       entered = enter_method_head t f l c n (head_of t f m)
+  method_keeps t c (constructor l ps body) =
+      gives_if (Keeps f t) (has_unknown t f (constructor l ps body)) (wrong f l UnknownName) (if is_some (class_of t c).constructor then wrong f l Duplicate else entered) (λ e. tt)
+      (λ e. gives_if (Keeps f t) (is_some (class_of t c).constructor) (wrong f l Duplicate) entered (λ d. tt) (λ d. constructor_head_keeps t l c (head_of t f (constructor l ps body))))
+    where
+      entered : Answer Table
+      entered = enter_constructor_head t f l c (head_of t f (constructor l ps body))
 
   fun_head_keeps : (t : Table) (l : ℕ) (n : Name) (h : Option Head) → GivesSuch (Keeps f t) (enter_fun_head t f l n h)
   fun_head_keeps t l n None = tt
@@ -150,19 +170,22 @@ module _ (f : ℕ) where
 
       entered : Answer Table
       entered = enter_fun_head t f l n (head_of t f m)
+  fun_keeps t (constructor l ps body) =
+      gives_if (Keeps f t) (has_unknown t f (constructor l ps body)) (wrong f l UnknownName) (refuse_constructor f l (head_of t f (constructor l ps body))) (λ e. tt)
+      (λ e. refused_keeps t l (head_of t f (constructor l ps body)))
 
 -- variables and members ---------------------------------------------------------------------------
 
 module _ (f : ℕ) (t : Table) (n : Name) (k : Kind) where
   pub keeps_variable : Keeps f t (with_variable t f n k)
   keeps_variable =
-      keeps_file f t t.funs (t.statics ++ k ∷ []) (record (file_of t f) { variables = and_first n (next_static t k) (file_of t f).variables }) refl
-      (first_stays n (next_static t k) (file_of t f).variables)
+      keeps_file f t t.funs (t.statics ++ k ∷ []) (record (file_of t f) { variables = and_first n (length t.statics) (file_of t f).variables }) refl
+      (first_stays n (length t.statics) (file_of t f).variables) (k ∷ [], refl)
 
-  pub found_variable : f < length t.files → lookup n (file_of t f).variables ≡ None → variable_named (with_variable t f n k) f n ≡ Some (next_static t k)
+  pub found_variable : f < length t.files → lookup n (file_of t f).variables ≡ None → lookup n (file_of (with_variable t f n k) f).variables ≡ Some (length t.statics)
   found_variable lt none =
-      ap (λ o. lookup n (or_no_file o).variables) (changed_at t.files f (record (file_of t f) { variables = and_first n (next_static t k) (file_of t f).variables }) lt)
-      ∙ first_found n (next_static t k) (file_of t f).variables none
+      ap (λ o. lookup n (or_no_file o).variables) (changed_at t.files f (record (file_of t f) { variables = and_first n (length t.statics) (file_of t f).variables }) lt)
+      ∙ first_found n (length t.statics) (file_of t f).variables none
 
   module _ (c : ℕ) where
     abbrev more_statics : Table
@@ -172,7 +195,7 @@ module _ (f : ℕ) (t : Table) (n : Name) (k : Kind) where
     more_fields = with_class t c (record (class_of t c) { fields = (class_of t c).fields ++ k ∷ [] })
 
     pub keeps_static : Keeps f t (with_static t c n k)
-    keeps_static = keeps_then f t more_statics (with_static t c n k) (keeps_others f t t.funs (t.statics ++ k ∷ [])) (keeps_member f more_statics c n (own.Static (next_static t k)))
+    keeps_static = keeps_then f t more_statics (with_static t c n k) (keeps_others f t t.funs (t.statics ++ k ∷ []) (k ∷ [], refl)) (keeps_member f more_statics c n (own.Static (next_static t k)))
 
     pub keeps_field : Keeps f t (with_field t c n k)
     keeps_field =

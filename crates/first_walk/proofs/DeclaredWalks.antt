@@ -1,24 +1,28 @@
 -- What was walked is declared, then and in each later table of the walk.
 use Rattle.std.proofs.Common.{◌≡◌, ℕ, ◌<◌, false, not, length, Option, Some, None, if◌then◌else◌, refl, sym, ap, ◌∙◌, subst}
+use Rattle.std.specs.Option.{option_map}
 use Rattle.ck_values.specs.declared.kind.Kind.{Kind}
+use Rattle.ck_values.specs.declared.kind.Kind.TheVariants.{Void}
+use Rattle.ck_syntax.specs.declared.declaration.Base.{Base}
 use Rattle.ck_syntax.specs.declared.declaration.DeclHead.{DeclHead}
 use Rattle.ck_syntax.specs.Tree as tree
-use Rattle.ck_syntax.specs.Tree.{Name, Expr, Exprs, no_exprs, and_expr, Brackets, no_brackets, and_empty, and_size, Declrs, no_declrs, and_declr, declr, Stmt, Members, no_members, and_member, fun_member, stmt_member, no_items, and_item, class_item, fun_item, stmt_item}
+use Rattle.ck_syntax.specs.Tree.{Name, Expr, Exprs, no_exprs, and_expr, Brackets, no_brackets, and_empty, and_size, Declrs, no_declrs, and_declr, Declr, declr, declr_with, declr_name, Stmt, Members, no_members, and_member, fun_member, stmt_member, no_items, and_item, class_item, fun_item, stmt_item}
 use Rattle.type_table.specs.declared.class.Own.{Own}
 use Rattle.type_table.specs.declared.class.Own.TheVariants as own
 use Rattle.type_table.specs.declared.fault.FaultKind.TheVariants.{UnknownName, Duplicate, BadPlace}
 use Rattle.type_table.specs.Answer.{Answer, gives, and_then, wrong}
-use Rattle.first_walk.specs.FirstWalk.{or_object, own_class, next_static, with_variable, with_static, with_field, is_taken, is_name_taken, enter_of_kind, enter_declared, enter_expr, enter_exprs, enter_brackets, enter_declrs, enter_option, enter_stmt, enter_members, with_body, enter_item, enter_items, enter_method, enter_fun}
+use Rattle.first_walk.specs.FirstWalk.{or_object, own_class, next_static, with_variable, with_static, with_field, is_taken, is_name_taken, enter_of_kind, is_misplaced, enter_written, with_auto, enter_based, enter_declared, enter_expr, enter_exprs, enter_behind, enter_brackets, enter_declrs, enter_option, enter_stmt, enter_members, with_body, enter_item, enter_items, enter_method, enter_fun}
 use Rattle.type_table.specs.NameClash.{is_member_taken}
 use Rattle.type_table.specs.Names.{lookup}
-use Rattle.type_table.specs.Table.{Table, file_of, class_of, as_member, ancestors}
-use Rattle.type_table.specs.Types.{named_by, is_unknown, declared_kind, may_be_static}
+use Rattle.type_table.specs.Table.{Table, file_of, class_of, as_member, ancestors, kind_or_void, static_at}
+use Rattle.type_table.specs.Types.{named_by, is_unknown, written_kind, may_be_static}
 use Rattle.type_table.proofs.Ranges.{many}
-use Rattle.type_table.proofs.Declared.{IsDeclared, Declared, AllDeclared, SizesDeclared}
+use Rattle.type_table.proofs.ListFacts.{get_last}
+use Rattle.type_table.proofs.Declared.{HasName, IsAuto, IsDeclaredAs, IsDeclared, Declared, AllDeclared, BehindDeclared, SizesDeclared}
 use Rattle.first_walk.proofs.DeclaredFiles.{ListDeclared, OptionDeclared, StmtDeclared, MembersDeclared, ItemDeclared, FileDeclared}
 use Rattle.first_walk.specs.Room.{FileReady}
 use Rattle.first_walk.proofs.DeclaredFrame.{Keeps, keeps_self, keeps_then, same_own_class, same_named}
-use Rattle.first_walk.proofs.DeclaredSteps.{GivesSuch, gives_map, gives_then, gives_at, gives_if, keeps_body, method_keeps, fun_keeps, keeps_variable, found_variable, keeps_static, keeps_field, found_static, found_field, no_variable, no_member, own_found}
+use Rattle.first_walk.proofs.DeclaredSteps.{GivesSuch, gives_map, gives_then, gives_at, gives_if, keeps_body, method_keeps, fun_keeps, keeps_variable, keeps_member, found_variable, keeps_static, keeps_field, found_static, found_field, no_variable, no_member, own_found}
 
 -- the class that declares is one of the table's
 abbrev pub OwnerIn : Table → Option ℕ → Type 0
@@ -91,75 +95,104 @@ module _ (f : ℕ) (o : Option ℕ) where
 
 -- a declaration -----------------------------------------------------------------------------------
 
-module _ (f l : ℕ) (t : Table) (h : DeclHead) (n : Name) (bs : Brackets) where
-  abbrev IsIt : Option ℕ → Table → Type 0
-  IsIt o w = IsDeclared w f o h n bs
+module _ (f l : ℕ) (t : Table) (h : DeclHead) (x : Declr) where
+  abbrev n : Name
+  n = declr_name x
 
-  module _ (k : Kind) (is : declared_kind h (named_by t f h.base) bs ≡ Some k) where
-    of_kind : (u w : Table) → Keeps f t u → Keeps f u w → declared_kind h (named_by w f h.base) bs ≡ Some k
-    of_kind u w a b = ap (λ x. declared_kind h x bs) (same_named f t w (keeps_then f t u w a b) h.base) ∙ is
+  -- a file variable is found with its type
+  variable_has : (k : Kind) → Ready f None t → is_name_taken t f n ≡ false → (w : Table) → Keeps f (with_variable t f n k) w → HasName w f None n k
+  variable_has k ready free w more = (
+    static_at w at,
+    ap (option_map (static_at w)) (more.variables n at (found_variable f t n k ready.file (no_variable t n f free))),
+    ap kind_or_void (more.statics at k (get_last t.statics k at refl)),
+  )
+    where
+      at : ℕ
+      at = length t.statics
 
-    variable : Ready f None t → is_name_taken t f n ≡ false → Walked f (IsIt None) t (with_variable t f n k)
-    variable ready free = record { keeps = keeps; later = later }
-      where
-        keeps : Keeps f t (with_variable t f n k)
-        keeps = keeps_variable f t n k
+  -- a declaration with `auto`
+  auto_walked : (o : Option ℕ) → Ready f o t → is_taken t f o n ≡ false → Walked f (λ w. IsAuto w f o n) t (with_auto t f o n)
+  auto_walked None ready free = record { keeps = keeps_variable f t n Void; later = variable_has Void ready free }
+  auto_walked (Some c) ready free = record { keeps = keeps_member f t c n own.Auto; later = λ w more. tt }
 
-        later : (w : Table) → Keeps f (with_variable t f n k) w → IsIt None w
-        later w more = (
-          k,
-          of_kind (with_variable t f n k) w keeps more,
-          (next_static t k, more.variables n (next_static t k) (found_variable f t n k ready.file (no_variable t n f free)), refl),
-        )
+  module _ (base : Base) where
+    abbrev IsIt : Option ℕ → Table → Type 0
+    IsIt o w = IsDeclaredAs w f o h (Some base) x
 
-    module _ (c : ℕ) (ready : Ready f (Some c) t) (free : is_member_taken t c n false ≡ false) where
-      field : Walked f (IsIt (Some c)) t (with_field t c n k)
-      field = record { keeps = keeps; later = later }
+    abbrev kind_now : Table → Option Kind
+    kind_now w = written_kind h (named_by w f base) x
+
+    module _ (k : Kind) (is : kind_now t ≡ Some k) where
+      of_kind : (u w : Table) → Keeps f t u → Keeps f u w → kind_now w ≡ Some k
+      of_kind u w a b = ap (λ y. written_kind h y x) (same_named f t w (keeps_then f t u w a b) base) ∙ is
+
+      variable : Ready f None t → is_name_taken t f n ≡ false → Walked f (IsIt None) t (with_variable t f n k)
+      variable ready free = record { keeps = keeps; later = later }
         where
-          keeps : Keeps f t (with_field t c n k)
-          keeps = keeps_field f t n k c
+          keeps : Keeps f t (with_variable t f n k)
+          keeps = keeps_variable f t n k
 
-          new : Own
-          new = own.Field (length (class_of t c).fields) k
+          later : (w : Table) → Keeps f (with_variable t f n k) w → IsIt None w
+          later w more = (k, of_kind (with_variable t f n k) w keeps more, variable_has k ready free w more)
 
-          later : (w : Table) → Keeps f (with_field t c n k) w → IsIt (Some c) w
-          later w more = (
-            k,
-            of_kind (with_field t c n k) w keeps more,
-            (as_member w (ancestors w c) n new, own_found w c n new (more.members c n new (found_field f t n k c ready.owner (no_member t n c free))), refl),
-          )
+      module _ (c : ℕ) (ready : Ready f (Some c) t) (free : is_member_taken t c n false ≡ false) where
+        field : Walked f (IsIt (Some c)) t (with_field t c n k)
+        field = record { keeps = keeps; later = later }
+          where
+            keeps : Keeps f t (with_field t c n k)
+            keeps = keeps_field f t n k c
 
-      static : Walked f (IsIt (Some c)) t (with_static t c n k)
-      static = record { keeps = keeps; later = later }
-        where
-          keeps : Keeps f t (with_static t c n k)
-          keeps = keeps_static f t n k c
+            new : Own
+            new = own.Field (length (class_of t c).fields) k
 
-          new : Own
-          new = own.Static (next_static t k)
+            later : (w : Table) → Keeps f (with_field t c n k) w → IsIt (Some c) w
+            later w more = (
+              k,
+              of_kind (with_field t c n k) w keeps more,
+              (as_member w (ancestors w c) n new, own_found w c n new (more.members c n new (found_field f t n k c ready.owner (no_member t n c free))), refl),
+            )
 
-          later : (w : Table) → Keeps f (with_static t c n k) w → IsIt (Some c) w
-          later w more = (
-            k,
-            of_kind (with_static t c n k) w keeps more,
-            (as_member w (ancestors w c) n new, own_found w c n new (more.members c n new (found_static f t n k c ready.owner (no_member t n c free))), refl),
-          )
+        static : Walked f (IsIt (Some c)) t (with_static t c n k)
+        static = record { keeps = keeps; later = later }
+          where
+            keeps : Keeps f t (with_static t c n k)
+            keeps = keeps_static f t n k c
 
-  one_of_kind : (o : Option ℕ) → Ready f o t → is_taken t f o n ≡ false → (k : Option Kind) → declared_kind h (named_by t f h.base) bs ≡ k → GivesSuch (Walked f (IsIt o) t) (enter_of_kind t f l o h n k)
-  one_of_kind o ready free None is = tt
-  one_of_kind None ready free (Some k) is = gives_if (Walked f (IsIt None) t) h.is_static (wrong f l BadPlace) (gives (with_variable t f n k)) (λ e. tt) (λ e. variable k is ready free)
-  one_of_kind (Some c) ready free (Some k) is =
-      gives_if (Walked f (IsIt (Some c)) t) (not h.is_static) (gives (with_field t c n k)) (if may_be_static h k then gives (with_static t c n k) else wrong f l BadPlace)
-      (λ e. field k is c ready free)
-      (λ e. gives_if (Walked f (IsIt (Some c)) t) (may_be_static h k) (gives (with_static t c n k)) (wrong f l BadPlace) (λ d. static k is c ready free) (λ d. tt))
+            new : Own
+            new = own.Static (next_static t k)
 
-  pub one_declared : (o : Option ℕ) → Ready f o t → GivesSuch (Walked f (IsIt o) t) (enter_declared t f l o h n bs)
-  one_declared o ready =
-      gives_if (Walked f (IsIt o) t) (is_unknown (named_by t f h.base)) (wrong f l UnknownName) (if is_taken t f o n then wrong f l Duplicate else entered) (λ e. tt)
-      (λ e. gives_if (Walked f (IsIt o) t) (is_taken t f o n) (wrong f l Duplicate) entered (λ d. tt) (λ free. one_of_kind o ready free (declared_kind h (named_by t f h.base) bs) refl))
+            later : (w : Table) → Keeps f (with_static t c n k) w → IsIt (Some c) w
+            later w more = (
+              k,
+              of_kind (with_static t c n k) w keeps more,
+              (as_member w (ancestors w c) n new, own_found w c n new (more.members c n new (found_static f t n k c ready.owner (no_member t n c free))), refl),
+            )
+
+    one_of_kind : (o : Option ℕ) → Ready f o t → is_taken t f o n ≡ false → (k : Option Kind) → kind_now t ≡ k → GivesSuch (Walked f (IsIt o) t) (enter_of_kind t f l o h n k)
+    one_of_kind o ready free None is = tt
+    one_of_kind None ready free (Some k) is = gives_if (Walked f (IsIt None) t) h.is_static (wrong f l BadPlace) (gives (with_variable t f n k)) (λ e. tt) (λ e. variable k is ready free)
+    one_of_kind (Some c) ready free (Some k) is =
+        gives_if (Walked f (IsIt (Some c)) t) (not h.is_static) (gives (with_field t c n k)) (if may_be_static h k then gives (with_static t c n k) else wrong f l BadPlace)
+        (λ e. field k is c ready free)
+        (λ e. gives_if (Walked f (IsIt (Some c)) t) (may_be_static h k) (gives (with_static t c n k)) (wrong f l BadPlace) (λ d. static k is c ready free) (λ d. tt))
+
+    one_written : (o : Option ℕ) → Ready f o t → is_taken t f o n ≡ false → GivesSuch (Walked f (IsIt o) t) (enter_written t f l o h x (kind_now t))
+    one_written o ready free =
+        gives_if (Walked f (IsIt o) t) (is_misplaced h x (kind_now t)) (wrong f l BadPlace) (enter_of_kind t f l o h n (kind_now t)) (λ e. tt)
+        (λ e. one_of_kind o ready free (kind_now t) refl)
+
+  one_based : (b : Option Base) (o : Option ℕ) → Ready f o t → GivesSuch (Walked f (λ w. IsDeclaredAs w f o h b x) t) (enter_based t f l o h b x)
+  one_based None o ready =
+      gives_if (Walked f (λ w. IsAuto w f o n) t) (is_taken t f o n) (wrong f l Duplicate) (gives (with_auto t f o n)) (λ d. tt) (λ free. auto_walked o ready free)
+  one_based (Some b) o ready =
+      gives_if (Walked f (IsIt b o) t) (is_unknown (named_by t f b)) (wrong f l UnknownName) (if is_taken t f o n then wrong f l Duplicate else entered) (λ e. tt)
+      (λ e. gives_if (Walked f (IsIt b o) t) (is_taken t f o n) (wrong f l Duplicate) entered (λ d. tt) (λ free. one_written b o ready free))
     where
       entered : Answer Table
-      entered = enter_of_kind t f l o h n (declared_kind h (named_by t f h.base) bs)
+      entered = enter_written t f l o h x (kind_now b t)
+
+  pub one_declared : (o : Option ℕ) → Ready f o t → GivesSuch (Walked f (λ w. IsDeclared w f o h x) t) (enter_declared t f l o h x)
+  one_declared o ready = one_based h.base o ready
 
 -- texts -------------------------------------------------------------------------------------------
 
@@ -184,6 +217,7 @@ module _ (f : ℕ) (o : Option ℕ) where
         two f o (λ w. Declared w f o e) (λ w. Declared w f o d) t (enter_expr f o t e) (λ u. enter_expr f o u d) is (expr_walked t e is) (λ u. expr_walked u d)
     expr_walked t (tree.prefix l p e) is = expr_walked t e is
     expr_walked t (tree.new l b es) is = exprs_walked t es is
+    expr_walked t (tree.new_with l b es) is = exprs_walked t es is
     expr_walked t (tree.spork l e) is = expr_walked t e is
     expr_walked t (tree.cast l e k) is = expr_walked t e is
     expr_walked t (tree.binary l a p b) is =
@@ -191,9 +225,9 @@ module _ (f : ℕ) (o : Option ℕ) where
     expr_walked t (tree.choice l c a b) is =
         three f o (λ w. Declared w f o c) (λ w. Declared w f o a) (λ w. Declared w f o b) t (enter_expr f o t c) (λ u. enter_expr f o u a) (λ u. enter_expr f o u b) is
         (expr_walked t c is) (λ u. expr_walked u a) (λ u. expr_walked u b)
-    expr_walked t (tree.declare l h (declr n bs)) is =
-        two f o (λ w. SizesDeclared w f o bs) (λ w. IsDeclared w f o h n bs) t (enter_brackets f o t bs) (λ u. enter_declared u f l o h n bs) is
-        (brackets_walked t bs is) (λ u. one_declared f l u h n bs o)
+    expr_walked t (tree.declare l h x) is =
+        two f o (λ w. BehindDeclared w f o x) (λ w. IsDeclared w f o h x) t (enter_behind f o t x) (λ u. enter_declared u f l o h x) is
+        (behind_walked t x is) (λ u. one_declared f l u h x o)
     expr_walked t (tree.chuck l a p b) is =
         two f o (λ w. Declared w f o a) (λ w. Declared w f o b) t (enter_expr f o t a) (λ u. enter_expr f o u b) is (expr_walked t a is) (λ u. expr_walked u b)
 
@@ -201,6 +235,10 @@ module _ (f : ℕ) (o : Option ℕ) where
     exprs_walked t no_exprs is = nothing f t
     exprs_walked t (and_expr es e) is =
         two f o (λ w. AllDeclared w f o es) (λ w. Declared w f o e) t (enter_exprs f o t es) (λ u. enter_expr f o u e) is (exprs_walked t es is) (λ u. expr_walked u e)
+
+    pub behind_walked : (t : Table) (x : Declr) → Ready f o t → GivesSuch (Walked f (λ w. BehindDeclared w f o x) t) (enter_behind f o t x)
+    behind_walked t (declr n bs) is = brackets_walked t bs is
+    behind_walked t (declr_with n es) is = exprs_walked t es is
 
     pub brackets_walked : (t : Table) (bs : Brackets) → Ready f o t → GivesSuch (Walked f (λ w. SizesDeclared w f o bs) t) (enter_brackets f o t bs)
     brackets_walked t no_brackets is = nothing f t
@@ -210,9 +248,9 @@ module _ (f : ℕ) (o : Option ℕ) where
 
   pub declrs_walked : (l : ℕ) (h : DeclHead) (t : Table) (ds : Declrs) → Ready f o t → GivesSuch (Walked f (λ w. ListDeclared w f o h ds) t) (enter_declrs f l o h t ds)
   declrs_walked l h t no_declrs is = nothing f t
-  declrs_walked l h t (and_declr ds (declr n bs)) is =
-      three f o (λ w. ListDeclared w f o h ds) (λ w. SizesDeclared w f o bs) (λ w. IsDeclared w f o h n bs) t (enter_declrs f l o h t ds) (λ u. enter_brackets f o u bs)
-      (λ v. enter_declared v f l o h n bs) is (declrs_walked l h t ds is) (λ u. brackets_walked u bs) (λ u. one_declared f l u h n bs o)
+  declrs_walked l h t (and_declr ds x) is =
+      three f o (λ w. ListDeclared w f o h ds) (λ w. BehindDeclared w f o x) (λ w. IsDeclared w f o h x) t (enter_declrs f l o h t ds) (λ u. enter_behind f o u x)
+      (λ v. enter_declared v f l o h x) is (declrs_walked l h t ds is) (λ u. behind_walked u x) (λ u. one_declared f l u h x o)
 
   option_walked : (t : Table) (e : Option Expr) → Ready f o t → GivesSuch (Walked f (λ w. OptionDeclared w f o e) t) (enter_option f o t e)
   option_walked t None is = nothing f t

@@ -19,11 +19,11 @@ use Rattle.type_table.specs.declared.class.Class.{Class}
 use Rattle.type_table.specs.declared.class.Head.{Head}
 use Rattle.type_table.specs.Table.{Table, class_of, file_of, fun_of, or_no_head, plain_head, line, ancestors, overridden}
 use Rattle.type_table.proofs.Ranges.{Each, ElemIn, ValueIn, many, ResultIn, HeadIn}
-use Rattle.first_walk.proofs.TableFacts.{IsFileOf, IsClassOf, IsTable, Dispatched, Owned, IsOwn, IsBodyOf, new_slots}
+use Rattle.first_walk.proofs.TableFacts.{IsFileOf, IsClassOf, IsTable, Dispatched, Owned, IsOwn, IsBodyOf, IsConstructorOf, new_slots}
 use Rattle.type_table.proofs.ListFacts.{each_map, each_push, within_same, within_is, within_push}
 use Rattle.first_walk.proofs.SameNames.{same_self}
 use Rattle.first_walk.proofs.LinesBelow.{line_by_same, line_in, each_drop}
-use Rattle.first_walk.proofs.Growth.{OwnedSoFar, OwnSoFar, BodySoFar, ClassSoFar, class_grows}
+use Rattle.first_walk.proofs.Growth.{OwnedSoFar, OwnSoFar, BodySoFar, ConstructorSoFar, ClassSoFar, class_grows}
 use Rattle.first_walk.proofs.EnterSteps.{Ready, SoFar}
 use Rattle.first_walk.proofs.NamedClasses.{IsNew}
 use Rattle.first_walk.proofs.Started.{Started, IsBlank}
@@ -92,12 +92,17 @@ module _ (t : Table) (f : ℕ) (before : List (Option ℕ)) (is : IsTable t befo
 
     old_own : (m : Name × Own) → IsOwn t before c m → OwnSoFar b t.funs t.statics before c (class_of t c).fields m
     old_own (n, own.Field i x) so = so
-    old_own (n, own.Static v) so = so
+    old_own (n, own.Static v) so = (so.0, value_more (many t) (many b) started.more v.kind so.1)
+    old_own (n, own.Auto) so = tt
     old_own (n, own.Fun g d) so = (fun_of t g, known_head t.funs g (omega (arith, owned_in t before c n g d so.1, is.count)), old_owned n g d so.0 so.1)
 
     old_body : (o : Option ℕ) → IsBodyOf t before c o → BodySoFar t.funs before c o
     old_body None so = tt
     old_body (Some g) so = so
+
+    old_constructor : (o : Option ℕ) → IsConstructorOf before c o → ConstructorSoFar before c o
+    old_constructor None so = tt
+    old_constructor (Some g) so = so
 
     old_class : ClassSoFar b b.funs b.statics first c (class_of b c)
     old_class = subst (ClassSoFar b b.funs b.statics first c) (sym (started.old c lt))
@@ -108,6 +113,7 @@ module _ (t : Table) (f : ℕ) (before : List (Option ℕ)) (is : IsTable t befo
           fields = each_map (ValueIn (many t)) (ValueIn (many b)) (value_more (many t) (many b) started.more) (class_of t c).fields k.fields;
           slots = k.slots;
           body = old_body (class_of t c).body k.body;
+          constructor_so_far = old_constructor (class_of t c).constructor k.constructor_is;
         }))
 
   new_class : (c : ℕ) → IsBlank (class_of b c) → ClassSoFar b b.funs b.statics first c (class_of b c)
@@ -117,6 +123,7 @@ module _ (t : Table) (f : ℕ) (before : List (Option ℕ)) (is : IsTable t befo
     fields = subst (Each (ValueIn (many b))) (sym blank.fields) tt;
     slots = ap new_slots blank.members ∙ sym (ap numbers blank.slots);
     body = subst (BodySoFar b.funs first c) (sym blank.body) tt;
+    constructor_so_far = subst (ConstructorSoFar first c) (sym blank.constructor_none) tt;
   }
 
   each_class : (c : ℕ) → c < many b → ClassSoFar b b.funs b.statics first c (class_of b c)
@@ -140,10 +147,10 @@ module _ (t : Table) (f : ℕ) (before : List (Option ℕ)) (is : IsTable t befo
     funs = sym (append-nil b.funs);
     grown = within_same b.statics;
     files = subst (λ l. Each (IsFileOf b l) b.files) (sym no_more) started.files;
-    statics = subst (Each (ValueIn (many b))) (sym started.statics) (each_map (ValueIn (many t)) (ValueIn (many b)) (value_more (many t) (many b) started.more) t.statics is.statics);
+    statics = subst (Each (ResultIn (many b))) (sym started.statics) (each_map (ResultIn (many t)) (ResultIn (many b)) (result_more (many t) (many b) started.more) t.statics is.statics);
     heads = subst (Each (HeadIn (many b))) (sym started.funs)
         (each_push (HeadIn (many b)) t.funs (plain_head true) (each_map (HeadIn (many t)) (HeadIn (many b)) (head_more (many t) (many b) started.more) t.funs is.heads) (tt, tt));
     classes = λ c lt. subst (λ l. ClassSoFar b b.funs b.statics l c (class_of b c)) (sym no_more) (each_class c lt);
-    older = λ c lt. record { name = refl; members = refl; fields = refl; slots = refl; body = refl };
+    older = λ c lt. record { name = refl; members = refl; fields = refl; slots = refl; body = refl; constructor_same = refl };
     others = λ g other. refl;
   }

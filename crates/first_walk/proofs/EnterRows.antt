@@ -1,6 +1,6 @@
 -- Each thing that the first walk enters: a variable, a static member, a field, a function, a method, and the function of
 -- the statements in a class's braces.
-use Rattle.std.proofs.Common.{◌≡◌, ℕ, ◌<◌, ◌≤◌, Bool, true, false, List, [], ◌∷◌, ◌++◌, length, Option, Some, None, slice_get, slice_set, if◌then◌else◌, refl, sym, ap, ◌∙◌, subst, arith, add-one}
+use Rattle.std.proofs.Common.{◌≡◌, ℕ, ◌<◌, ◌≤◌, Bool, true, false, List, [], ◌∷◌, ◌++◌, length, Option, Some, None, slice_get, slice_set, if◌then◌else◌, refl, sym, ap, ◌∙◌, subst, arith, add-one, length-append}
 use Rattle.std.proofs.lemmas.List.{append-nil}
 use Rattle.ck_values.specs.declared.kind.Kind.{Kind}
 use Rattle.ck_syntax.specs.Tree.{Name, Members}
@@ -9,17 +9,18 @@ use Rattle.type_table.specs.declared.class.Own.TheVariants as own
 use Rattle.type_table.specs.declared.class.Dispatch.{Dispatch}
 use Rattle.type_table.specs.declared.class.Dispatch.TheVariants as by
 use Rattle.type_table.specs.Finished.{numbers}
-use Rattle.first_walk.specs.FirstWalk.{with_class, with_variable, next_static, with_static, with_field, with_fun, with_dispatch, with_method, slots_with, with_body, has_statement}
+use Rattle.first_walk.specs.FirstWalk.{with_class, with_variable, next_static, with_static, with_field, with_fun, with_member, with_dispatch, with_method, with_constructor, slots_with, with_body, has_statement}
 use Rattle.type_table.specs.Names.{lookup, and_first}
 use Rattle.type_table.specs.declared.class.Class.{Class}
 use Rattle.type_table.specs.declared.class.Head.{Head}
 use Rattle.type_table.specs.declared.class.FileNames.{FileNames as File}
 use Rattle.type_table.specs.Table.{Table, or_no_file, or_no_class, class_of, file_of, plain_head, ancestors, overridden}
-use Rattle.type_table.proofs.Ranges.{Each, Within, ValueIn, many, HeadIn}
+use Rattle.type_table.proofs.Ranges.{Each, Within, ValueIn, ResultIn, many, HeadIn}
 use Rattle.first_walk.proofs.TableFacts.{Entry, owner, body_entries, heads_of, owners_of, SameClass, new_slots, IsFileOf}
 use Rattle.type_table.proofs.ListFacts.{get_set_other, get_set_same, set_keeps, set_cases, get_last, each_map, each_push, each_set, within_same, within_is, within_then, and_new, lookup_new, each_first}
 use Rattle.first_walk.proofs.SameNames.{SameNames, same_then}
 use Rattle.first_walk.proofs.Growth.{class_names, file_names, MayOverride, OwnedSoFar, ClassSoFar, class_grows, file_grows, no_file_is, each_file}
+use Rattle.first_walk.proofs.TypeRanges.{result_of_value}
 use Rattle.first_walk.proofs.EnterSteps.{Grows, grows_self, Ready, SoFar, owners_within, funs_more, owner_last, Prepared, member_step, member_grows, member_entered, funs_entered}
 
 rows_names : (t : Table) (funs : List Head) (statics : List Kind) → SameNames t (record t { funs = funs; statics = statics })
@@ -35,7 +36,7 @@ module _ (b : Table) (low f : ℕ) (first : List (Option ℕ)) (ready : Ready b 
   -- a file changes, and rows grow
   module _ (t : Table) (es more : List Entry) (funs : List Head) (statics : List Kind) (file : File) (so : SoFar b low f first es t)
       (classes : file.classes ≡ (file_of t f).classes) (main : file.main ≡ (file_of t f).main) (are : funs ≡ t.funs ++ heads_of more) (grown : Within t.statics statics)
-      (values : Each (ValueIn (many b)) statics) (heads : Each (HeadIn (many b)) funs) (named : Within (file_of t f).funs file.funs) where
+      (values : Each (ResultIn (many b)) statics) (heads : Each (HeadIn (many b)) funs) (named : Within (file_of t f).funs file.funs) where
     abbrev changed : Table
     changed = record t { funs = funs; statics = statics; files = slice_set t.files f file }
 
@@ -75,10 +76,10 @@ module _ (b : Table) (low f : ℕ) (first : List (Option ℕ)) (ready : Ready b 
     none_more : (u : Table) → SoFar b low f first (es ++ []) u → SoFar b low f first es u
     none_more u more = subst (λ l. SoFar b low f first l u) (append-nil es) more
 
-    with_kind : (k : Kind) → ValueIn (many b) k → Each (ValueIn (many b)) (t.statics ++ k ∷ [])
-    with_kind k is = each_push (ValueIn (many b)) t.statics k so.statics is
+    with_kind : (k : Kind) → ResultIn (many b) k → Each (ResultIn (many b)) (t.statics ++ k ∷ [])
+    with_kind k is = each_push (ResultIn (many b)) t.statics k so.statics is
 
-    pub variable_step : (n : Name) (k : Kind) → ValueIn (many b) k → SoFar b low f first es (with_variable t f n k) × Grows t (with_variable t f n k)
+    pub variable_step : (n : Name) (k : Kind) → ResultIn (many b) k → SoFar b low f first es (with_variable t f n k) × Grows t (with_variable t f n k)
     variable_step n k is = (
       none_more (with_variable t f n k) (file_step t es [] t.funs statics file so refl refl funs grown (with_kind k is) so.heads (within_same (file_of t f).funs) one),
       file_step_grows t es [] t.funs statics file so refl refl funs grown (with_kind k is) so.heads (within_same (file_of t f).funs),
@@ -88,7 +89,7 @@ module _ (b : Table) (low f : ℕ) (first : List (Option ℕ)) (ready : Ready b 
         statics = t.statics ++ k ∷ []
 
         file : File
-        file = record (file_of t f) { variables = and_first n (next_static t k) (file_of t f).variables }
+        file = record (file_of t f) { variables = and_first n (length t.statics) (file_of t f).variables }
 
         grown : Within t.statics statics
         grown = (k ∷ [], refl)
@@ -104,7 +105,8 @@ module _ (b : Table) (low f : ℕ) (first : List (Option ℕ)) (ready : Ready b 
           classes = kept.classes;
           funs = kept.funs;
           variables =
-              each_first (λ e. slice_get (t.statics ++ k ∷ []) e.1.index ≡ Some e.1.kind) n (next_static t k) (file_of t f).variables kept.variables (get_last t.statics k (length t.statics) refl);
+              each_first (λ (e : Name × ℕ). e.1 < length (t.statics ++ k ∷ [])) n (length t.statics) (file_of t f).variables kept.variables
+              (omega (arith, length-append t.statics (k ∷ [])));
         }
 
     with_head : (h : Head) → HeadIn (many b) h → Each (HeadIn (many b)) (t.funs ++ h ∷ [])
@@ -181,6 +183,7 @@ module _ (b : Table) (low f : ℕ) (first : List (Option ℕ)) (ready : Ready b 
             fields = each_push (ValueIn (many b)) (class_of t c).fields k (so.classes c lt).fields is;
             members = refl;
             body = refl;
+            constructor_same = refl;
             new = new;
             one = get_last (class_of t c).fields k (length (class_of t c).fields) refl;
             slots = append-nil (numbers (class_of t c).slots);
@@ -206,7 +209,7 @@ module _ (b : Table) (low f : ℕ) (first : List (Option ℕ)) (ready : Ready b 
             files = refl;
             funs = sym (append-nil t.funs);
             grown = (k ∷ [], refl);
-            statics = with_kind k is;
+            statics = with_kind k (result_of_value (many b) k is);
             heads = so.heads;
             others = λ d other. refl;
             is = refl;
@@ -214,8 +217,38 @@ module _ (b : Table) (low f : ℕ) (first : List (Option ℕ)) (ready : Ready b 
             fields = (so.classes c lt).fields;
             members = refl;
             body = refl;
+            constructor_same = refl;
             new = new;
-            one = get_last t.statics k (length t.statics) refl;
+            one = (get_last t.statics k (length t.statics) refl, is);
+            slots = append-nil (numbers l.slots);
+          }
+
+      -- a declaration with `auto` takes its name alone
+      pub auto_step : SoFar b low f first es (with_member t c n own.Auto) × Grows t (with_member t c n own.Auto)
+      auto_step = (none_more (with_member t c n own.Auto) (member_step b low f first ready t t es [] c n own.Auto l so prepared), member_grows b low f first ready t t es [] c n own.Auto l so prepared)
+        where
+          l : Class
+          l = class_of t c
+
+          prepared : Prepared b low f first ready t t es [] c n own.Auto l
+          prepared = record {
+            low_le = low_le;
+            in_range = lt;
+            names = rows_names t t.funs t.statics;
+            files = refl;
+            funs = sym (append-nil t.funs);
+            grown = within_same t.statics;
+            statics = so.statics;
+            heads = so.heads;
+            others = λ d other. refl;
+            is = refl;
+            more_fields = within_same l.fields;
+            fields = (so.classes c lt).fields;
+            members = refl;
+            body = refl;
+            constructor_same = refl;
+            new = new;
+            one = tt;
             slots = append-nil (numbers l.slots);
           }
 
@@ -254,6 +287,7 @@ module _ (b : Table) (low f : ℕ) (first : List (Option ℕ)) (ready : Ready b 
             fields = (so.classes c lt).fields;
             members = refl;
             body = refl;
+            constructor_same = refl;
             new = new;
             one = (h, get_last t.funs h (length t.funs) refl, owned d right);
             slots = slots_are d right;
@@ -273,66 +307,106 @@ module _ (b : Table) (low f : ℕ) (first : List (Option ℕ)) (ready : Ready b 
                 ∙ get_last t.funs h (length t.funs) refl,
           )
 
-    -- the function of the statements in the braces
+    -- a function of a class that has no name: the class keeps its members, and says which one it is
+    module _ (c : ℕ) (low_le : low ≤ c) (lt : c < many b) (h : Head) (range : HeadIn (many b) h) (x : Class) where
+      abbrev with_one : Table
+      with_one = record t { funs = t.funs ++ h ∷ []; classes = slice_set t.classes c x }
+
+      abbrev one_entry : List Entry
+      one_entry = (h, Some c) ∷ []
+
+      abbrev one_owners : List (Option ℕ)
+      one_owners = first ++ owners_of (es ++ one_entry)
+
+      module _ (file : x.file ≡ (class_of t c).file) (heads : x.heads ≡ (class_of t c).heads) (members : x.members ≡ (class_of t c).members)
+          (here : ClassSoFar b with_one.funs t.statics one_owners c (class_of t c) → ClassSoFar b with_one.funs t.statics one_owners c x) where
+        one_names : SameNames t with_one
+        one_names =
+            same_then t (record t { funs = t.funs ++ h ∷ [] }) with_one (rows_names t (t.funs ++ h ∷ []) t.statics)
+            (class_names (record t { funs = t.funs ++ h ∷ [] }) c x file heads)
+
+        grown_class : (d : ℕ) → d < many b → ClassSoFar b with_one.funs t.statics one_owners d (class_of t d)
+        grown_class d at =
+            class_grows b t.funs with_one.funs t.statics t.statics (first ++ owners_of es) one_owners
+            (h ∷ [], refl) (within_same t.statics) (owners_within b low f first ready es one_entry) d (class_of t d) (so.classes d at)
+
+        one_step : SoFar b low f first (es ++ one_entry) with_one
+        one_step = record {
+          names = same_then b t with_one so.names one_names;
+          funs = funs_more b low f first ready es one_entry t with_one so refl;
+          grown = so.grown;
+          files = each_map (IsFileOf t (first ++ owners_of es)) (IsFileOf with_one one_owners)
+              (λ y is. file_grows t with_one (first ++ owners_of es) one_owners y
+              (omega (arith, one_names.many_same)) (within_same t.statics) (owners_within b low f first ready es one_entry) is) t.files so.files;
+          statics = so.statics;
+          heads = with_head h range;
+          classes =
+              λ d at. set_cases (λ e y. e < many b → ClassSoFar b with_one.funs t.statics one_owners e (or_no_class y))
+              t.classes c d x (omega (arith, lt, so.names.many_same)) (λ in_b. here (grown_class c in_b)) (λ other. grown_class d) at;
+          older = λ d at. subst (SameClass (class_of b d)) (sym (ap or_no_class (get_set_other t.classes c d x (λ e. absurd (omega (arith, at, e, low_le)))))) (so.older d at);
+          others = so.others;
+        }
+
+        one_grows : Grows t with_one
+        one_grows = record {
+          funs = (h ∷ [], refl);
+          members = λ d. within_is (class_of t d).members (class_of with_one d).members (set_members d);
+          named = λ g. within_same (file_of t g).funs;
+        }
+          where
+            set_members : (d : ℕ) → (class_of with_one d).members ≡ (class_of t d).members
+            set_members d = set_keeps (λ y. (or_no_class y).members) t.classes c d x members
+
     module _ (c : ℕ) (low_le : low ≤ c) (lt : c < many b) where
+      -- its function is the last one
+      module _ (h : Head) where
+        abbrev last_owner : Type 0
+        last_owner = slice_get (first ++ owners_of (es ++ (h, Some c) ∷ [])) (length t.funs) ≡ Some (Some c)
+
+        last : last_owner
+        last = owner_last b low f first ready es t h (Some c) so
+
+      -- the function of the statements in the braces
       abbrev bodied : Class
       bodied = record (class_of t c) { body = Some (length t.funs) }
 
-      abbrev with_one : Table
-      with_one = record t { funs = t.funs ++ plain_head false ∷ []; classes = slice_set t.classes c bodied }
+      abbrev braces : Head
+      braces = plain_head false
 
-      abbrev body_entry : List Entry
-      body_entry = (plain_head false, Some c) ∷ []
-
-      one_names : SameNames t with_one
-      one_names =
-          same_then t (record t { funs = t.funs ++ plain_head false ∷ [] }) with_one (rows_names t (t.funs ++ plain_head false ∷ []) t.statics)
-          (class_names (record t { funs = t.funs ++ plain_head false ∷ [] }) c bodied refl refl)
-
-      grown_class : (d : ℕ) → d < many b → ClassSoFar b with_one.funs t.statics (first ++ owners_of (es ++ body_entry)) d (class_of t d)
-      grown_class d at =
-          class_grows b t.funs with_one.funs t.statics t.statics (first ++ owners_of es) (first ++ owners_of (es ++ body_entry))
-          (plain_head false ∷ [], refl) (within_same t.statics) (owners_within b low f first ready es body_entry) d (class_of t d) (so.classes d at)
-
-      bodied_class : c < many b → ClassSoFar b with_one.funs t.statics (first ++ owners_of (es ++ body_entry)) c bodied
-      bodied_class at = let k = grown_class c at in record {
+      bodied_so : ClassSoFar b (t.funs ++ braces ∷ []) t.statics (first ++ owners_of (es ++ (braces, Some c) ∷ [])) c (class_of t c)
+          → ClassSoFar b (t.funs ++ braces ∷ []) t.statics (first ++ owners_of (es ++ (braces, Some c) ∷ [])) c bodied
+      bodied_so k = record {
         members = k.members;
         found = k.found;
         fields = k.fields;
         slots = k.slots;
-        body = (owner_last b low f first ready es t (plain_head false) (Some c) so, get_last t.funs (plain_head false) (length t.funs) refl);
+        body = (last braces, get_last t.funs braces (length t.funs) refl);
+        constructor_so_far = k.constructor_so_far;
       }
-
-      one_step : SoFar b low f first (es ++ body_entry) with_one
-      one_step = record {
-        names = same_then b t with_one so.names one_names;
-        funs = funs_more b low f first ready es body_entry t with_one so refl;
-        grown = so.grown;
-        files = each_map (IsFileOf t (first ++ owners_of es)) (IsFileOf with_one (first ++ owners_of (es ++ body_entry)))
-            (λ x is. file_grows t with_one (first ++ owners_of es) (first ++ owners_of (es ++ body_entry)) x
-            (omega (arith, one_names.many_same)) (within_same t.statics) (owners_within b low f first ready es body_entry) is) t.files so.files;
-        statics = so.statics;
-        heads = with_head (plain_head false) (tt, tt);
-        classes =
-            λ d at. set_cases (λ e x. e < many b → ClassSoFar b with_one.funs t.statics (first ++ owners_of (es ++ body_entry)) e (or_no_class x))
-            t.classes c d bodied (omega (arith, lt, so.names.many_same)) bodied_class (λ other. grown_class d) at;
-        older = λ d at. subst (SameClass (class_of b d)) (sym (ap or_no_class (get_set_other t.classes c d bodied (λ e. absurd (omega (arith, at, e, low_le)))))) (so.older d at);
-        others = so.others;
-      }
-
-      one_grows : Grows t with_one
-      one_grows = record {
-        funs = (plain_head false ∷ [], refl);
-        members = λ d. within_is (class_of t d).members (class_of with_one d).members (set_members d);
-        named = λ g. within_same (file_of t g).funs;
-      }
-        where
-          set_members : (d : ℕ) → (class_of with_one d).members ≡ (class_of t d).members
-          set_members d = set_keeps (λ x. (or_no_class x).members) t.classes c d bodied refl
 
       pub body_step : (ms : Members) → SoFar b low f first (es ++ body_entries (has_statement ms) c) (with_body t c ms) × Grows t (with_body t c ms)
       body_step ms = go (has_statement ms)
         where
-          go : (has : Bool) → SoFar b low f first (es ++ body_entries has c) (if has then with_one else t) × Grows t (if has then with_one else t)
-          go true = (one_step, one_grows)
+          go : (has : Bool) → SoFar b low f first (es ++ body_entries has c) (if has then with_one c low_le lt braces (tt, tt) bodied else t)
+              × Grows t (if has then with_one c low_le lt braces (tt, tt) bodied else t)
+          go true = (one_step c low_le lt braces (tt, tt) bodied refl refl refl bodied_so, one_grows c low_le lt braces (tt, tt) bodied refl refl refl bodied_so)
           go false = (subst (λ l. SoFar b low f first l t) (sym (append-nil es)) so, grows_self t)
+
+      -- the constructor
+      module _ (h : Head) (range : HeadIn (many b) h) where
+        abbrev made : Class
+        made = record (class_of t c) { constructor = Some (length t.funs) }
+
+        made_so : ClassSoFar b (t.funs ++ h ∷ []) t.statics (first ++ owners_of (es ++ (h, Some c) ∷ [])) c (class_of t c)
+            → ClassSoFar b (t.funs ++ h ∷ []) t.statics (first ++ owners_of (es ++ (h, Some c) ∷ [])) c made
+        made_so k = record {
+          members = k.members;
+          found = k.found;
+          fields = k.fields;
+          slots = k.slots;
+          body = k.body;
+          constructor_so_far = last h;
+        }
+
+        pub constructor_step : SoFar b low f first (es ++ (h, Some c) ∷ []) (with_constructor t c h) × Grows t (with_constructor t c h)
+        constructor_step = (one_step c low_le lt h range made refl refl refl made_so, one_grows c low_le lt h range made refl refl refl made_so)

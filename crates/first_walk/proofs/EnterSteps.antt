@@ -9,7 +9,7 @@ use Rattle.type_table.specs.Names.{lookup, and_first}
 use Rattle.type_table.specs.declared.class.Class.{Class}
 use Rattle.type_table.specs.declared.class.Head.{Head}
 use Rattle.type_table.specs.Table.{Table, or_no_file, or_no_class, class_of, file_of, and_own}
-use Rattle.type_table.proofs.Ranges.{Each, Within, ValueIn, many, HeadIn}
+use Rattle.type_table.proofs.Ranges.{Each, Within, ValueIn, ResultIn, many, HeadIn}
 use Rattle.first_walk.proofs.TableFacts.{Entry, heads_of, owners_of, SameClass, new_slots, IsFileOf}
 use Rattle.type_table.proofs.ListFacts.{get_set_other, get_set_same, set_cases, get_last, each_map, within_same, within_is, within_then, and_new, lookup_new}
 use Rattle.first_walk.proofs.SameNames.{SameNames, same_then}
@@ -45,7 +45,7 @@ pub record SoFar (b : Table) (low f : ℕ) (first : List (Option ℕ)) (es : Lis
   pub funs : t.funs ≡ b.funs ++ heads_of es
   pub grown : Within b.statics t.statics
   pub files : Each (IsFileOf t (first ++ owners_of es)) t.files
-  pub statics : Each (ValueIn (many b)) t.statics
+  pub statics : Each (ResultIn (many b)) t.statics
   pub heads : Each (HeadIn (many b)) t.funs
   pub classes : (c : ℕ) → c < many b → ClassSoFar b t.funs t.statics (first ++ owners_of es) c (class_of t c)
   pub older : (c : ℕ) → c < low → SameClass (class_of b c) (class_of t c)
@@ -78,7 +78,7 @@ module _ (b : Table) (low f : ℕ) (first : List (Option ℕ)) (ready : Ready b 
     pub files : v.files ≡ t.files
     pub funs : v.funs ≡ t.funs ++ heads_of more
     pub grown : Within t.statics v.statics
-    pub statics : Each (ValueIn (many b)) v.statics
+    pub statics : Each (ResultIn (many b)) v.statics
     pub heads : Each (HeadIn (many b)) v.funs
     pub others : (d : ℕ) → (d ≡ c → ⊥) → class_of v d ≡ class_of t d
     pub is : class_of v c ≡ k
@@ -86,6 +86,7 @@ module _ (b : Table) (low f : ℕ) (first : List (Option ℕ)) (ready : Ready b 
     pub fields : Each (ValueIn (many b)) k.fields
     pub members : k.members ≡ (class_of t c).members
     pub body : k.body ≡ (class_of t c).body
+    pub constructor_same : k.constructor ≡ (class_of t c).constructor
     pub new : lookup n (class_of t c).members ≡ None
     pub one : OwnSoFar b v.funs v.statics (first ++ owners_of (es ++ more)) c k.fields (n, o)
     pub slots : numbers (class_of t c).slots ++ new_slots ((n, o) ∷ []) ≡ numbers k.slots
@@ -116,6 +117,7 @@ module _ (b : Table) (low f : ℕ) (first : List (Option ℕ)) (ready : Ready b 
             (subst (λ (x : Class). OwnSoFar b v.funs v.statics (first ++ owners_of (es ++ more)) c x.fields (n, o)) (sym p.is) p.one)
             (p.slots ∙ sym (ap (λ (x : Class). numbers x.slots) p.is))
             (ap (λ (x : Class). x.body) p.is ∙ p.body)
+            (ap (λ (x : Class). x.constructor) p.is ∙ p.constructor_same)
             (so.classes c at)
 
         there : (d ≡ c → ⊥) → d < many b → ClassSoFar b v.funs v.statics (first ++ owners_of (es ++ more)) d (class_of v d)

@@ -3,32 +3,33 @@ use Rattle.std.proofs.Common.{◌≡◌, ℕ, ◌<◌, ◌≤◌, Bool, true, fa
 use Rattle.std.proofs.lemmas.List.{append-nil}
 use Rattle.std.specs.List.{list_any}
 use Rattle.ck_values.specs.declared.kind.Kind.{Kind}
+use Rattle.ck_values.specs.declared.kind.Kind.TheVariants.{Void}
 use Rattle.ck_syntax.specs.declared.declaration.Base.{Base}
 use Rattle.ck_syntax.specs.declared.declaration.DeclHead.{DeclHead}
 use Rattle.ck_syntax.specs.declared.declaration.TypeName.{TypeName}
 use Rattle.ck_syntax.specs.Tree as tree
-use Rattle.ck_syntax.specs.Tree.{Name, Brackets, Stmt, Stmts, Params, Fun, Members, no_members, and_member, fun_member, stmt_member, Item, no_items, and_item, class_item, fun_item, stmt_item}
-use Rattle.type_table.specs.Answer.{gives, wrong}
+use Rattle.ck_syntax.specs.Tree.{Name, Declr, declr_name, Stmt, Stmts, Params, Fun, Members, no_members, and_member, fun_member, stmt_member, Item, no_items, and_item, class_item, fun_item, stmt_item}
+use Rattle.type_table.specs.Answer.{Answer, gives, wrong}
 use Rattle.type_table.specs.declared.class.Own.{Own}
 use Rattle.type_table.specs.declared.class.Own.TheVariants as own
 use Rattle.type_table.specs.declared.class.Dispatch.{Dispatch}
 use Rattle.type_table.specs.declared.class.Dispatch.TheVariants as by
 use Rattle.type_table.specs.declared.fault.FaultKind.TheVariants.{UnknownName, Duplicate, BadClass, BadPlace}
-use Rattle.first_walk.specs.FirstWalk.{own_class, head_of, has_unknown, is_name_taken, may_override, new_dispatch, old_dispatch, with_method, enter_beside, enter_method_head, enter_method, with_fun, enter_fun_head, enter_fun, with_variable, with_static, with_field, is_taken, enter_of_kind, enter_declared, enter_stmt, enter_member, enter_members, has_statement, with_body, enter_item, enter_items}
+use Rattle.first_walk.specs.FirstWalk.{own_class, head_of, has_unknown, is_name_taken, may_override, new_dispatch, old_dispatch, with_method, enter_beside, enter_method_head, with_constructor, enter_constructor_head, enter_method, refuse_constructor, with_fun, enter_fun_head, enter_fun, with_variable, with_static, with_field, with_member, is_taken, enter_of_kind, is_misplaced, enter_written, with_auto, enter_based, enter_declared, enter_stmt, enter_member, enter_members, has_statement, with_body, enter_item, enter_items}
 use Rattle.type_table.specs.NameClash.{has_other, is_other, is_taken_below, is_event_call, is_member_taken}
 use Rattle.type_table.specs.Names.{lookup, is_some}
 use Rattle.type_table.specs.declared.class.Head.{Head}
 use Rattle.type_table.specs.Table.{Table, class_of, file_of, or_no_head, ancestors, overridden}
-use Rattle.type_table.specs.Types.{named_by, is_unknown, declared_kind, may_be_static}
+use Rattle.type_table.specs.Types.{named_by, is_unknown, written_kind, may_be_static}
 use Rattle.type_table.proofs.Ranges.{ValueIn, many, HeadIn}
 use Rattle.first_walk.proofs.TableFacts.{Entry, owner, fun_entry, member_entries, body_entries, item_entries, items_entries}
 use Rattle.type_table.proofs.ListFacts.{Holds, get_within, lookup_within}
 use Rattle.first_walk.proofs.SameNames.{GivesSuch, gives_then, gives_if, gives_map, SameNames, same_classes, own_same, named_same, head_same, ancestors_same, overridden_same}
-use Rattle.first_walk.proofs.TypeRanges.{NamedIn, named_in, declared_in, head_in}
+use Rattle.first_walk.proofs.TypeRanges.{NamedIn, result_of_value, named_in, written_in, head_in, constructor_in}
 use Rattle.first_walk.proofs.Growth.{MayOverride}
 use Rattle.first_walk.proofs.SameKinds.{may_is}
 use Rattle.first_walk.proofs.EnterSteps.{Grows, grows_self, grows_then, Ready, SoFar}
-use Rattle.first_walk.proofs.EnterRows.{RightDispatch, variable_step, static_step, field_step, fun_step, fun_entered, method_step, method_entered, body_step}
+use Rattle.first_walk.proofs.EnterRows.{RightDispatch, variable_step, auto_step, constructor_step, static_step, field_step, fun_step, fun_entered, method_step, method_entered, body_step}
 use Rattle.first_walk.proofs.TextFuns.{MembersHold, ItemHolds, FunsHold, ClassHolds, ClassesHold, members_go, funs_go}
 use Rattle.first_walk.proofs.EnterWalks.{stmt_keeps}
 
@@ -98,7 +99,7 @@ module _ (b : Table) (low f : ℕ) (first : List (Option ℕ)) (ready : Ready b 
       where
         go : (s : Bool) → GivesSuch (Went start es) (if s then wrong f l BadPlace else gives (with_variable u f n k))
         go true = tt
-        go false = went start es es u (with_variable u f n k) so (variable_step b low f first ready u es so.0 n k is)
+        go false = went start es es u (with_variable u f n k) so (variable_step b low f first ready u es so.0 n k (result_of_value (many b) k is))
     of_kind (Some c) own u l h n (Some k) is free so = go h.is_static (may_be_static h k)
       where
         new : lookup n (class_of u c).members ≡ None
@@ -109,15 +110,34 @@ module _ (b : Table) (low f : ℕ) (first : List (Option ℕ)) (ready : Ready b 
         go true true = went start es es u (with_static u c n k) so (static_step b low f first ready u es so.0 c own.0 own.1 n new k is)
         go true false = tt
 
-    declared_keeps : (o : Option ℕ) → OwnIn o → (u : Table) (l : ℕ) (h : DeclHead) (n : Name) (bs : Brackets) → Went start es u → GivesSuch (Went start es) (enter_declared u f l o h n bs)
-    declared_keeps o own u l h n bs so =
-        gives_if (Went start es) (is_unknown (named_by u f h.base)) (wrong f l UnknownName)
-        (if is_taken u f o n then wrong f l Duplicate else enter_of_kind u f l o h n (declared_kind h (named_by u f h.base) bs)) (λ e. tt)
-        (λ e. gives_if (Went start es) (is_taken u f o n) (wrong f l Duplicate) (enter_of_kind u f l o h n (declared_kind h (named_by u f h.base) bs)) (λ taken. tt)
-        (λ free. of_kind o own u l h n (declared_kind h (named_by u f h.base) bs) (declared_in (many b) h (named_by u f h.base) bs (type_range u so.0.names h.base)) free so))
+    auto_went : (o : Option ℕ) → OwnIn o → (u : Table) (n : Name) → is_taken u f o n ≡ false → Went start es u → Went start es (with_auto u f o n)
+    auto_went None mine u n free so = went start es es u (with_variable u f n Void) so (variable_step b low f first ready u es so.0 n Void tt)
+    auto_went (Some c) mine u n free so = went start es es u (with_member u c n own.Auto) so (auto_step b low f first ready u es so.0 c mine.0 mine.1 n (free_name u c n false free))
+
+    written_keeps : (o : Option ℕ) → OwnIn o → (u : Table) (l : ℕ) (h : DeclHead) (x : Declr) (k : Option Kind)
+        → Holds (ValueIn (many b)) k → is_taken u f o (declr_name x) ≡ false → Went start es u → GivesSuch (Went start es) (enter_written u f l o h x k)
+    written_keeps o own u l h x k is free so =
+        gives_if (Went start es) (is_misplaced h x k) (wrong f l BadPlace) (enter_of_kind u f l o h (declr_name x) k) (λ e. tt)
+        (λ e. of_kind o own u l h (declr_name x) k is free so)
+
+    based_keeps : (o : Option ℕ) → OwnIn o → (u : Table) (l : ℕ) (h : DeclHead) (base : Option Base) (x : Declr) → Went start es u → GivesSuch (Went start es) (enter_based u f l o h base x)
+    based_keeps o own u l h None x so =
+        gives_if (Went start es) (is_taken u f o (declr_name x)) (wrong f l Duplicate) (gives (with_auto u f o (declr_name x))) (λ taken. tt)
+        (λ free. auto_went o own u (declr_name x) free so)
+    based_keeps o own u l h (Some base) x so =
+        gives_if (Went start es) (is_unknown (named_by u f base)) (wrong f l UnknownName)
+        (if is_taken u f o (declr_name x) then wrong f l Duplicate else entered) (λ e. tt)
+        (λ e. gives_if (Went start es) (is_taken u f o (declr_name x)) (wrong f l Duplicate) entered (λ taken. tt)
+        (λ free. written_keeps o own u l h x (written_kind h (named_by u f base) x) (written_in (many b) h (named_by u f base) x (type_range u so.0.names base)) free so))
+      where
+        entered : Answer Table
+        entered = enter_written u f l o h x (written_kind h (named_by u f base) x)
+
+    declared_keeps : (o : Option ℕ) → OwnIn o → (u : Table) (l : ℕ) (h : DeclHead) (x : Declr) → Went start es u → GivesSuch (Went start es) (enter_declared u f l o h x)
+    declared_keeps o own u l h x so = based_keeps o own u l h h.base x so
 
     stmt_went : (o : Option ℕ) → OwnIn o → (u : Table) (s : Stmt) → Went start es u → GivesSuch (Went start es) (enter_stmt f o u s)
-    stmt_went o own u s so = stmt_keeps f o (Went start es) (λ t l h n bs. declared_keeps o own t l h n bs) u s so
+    stmt_went o own u s so = stmt_keeps f o (Went start es) (λ t l h x. declared_keeps o own t l h x) u s so
 
     -- methods
     module _ (c : ℕ) (own : OwnIn (Some c)) (l : ℕ) (s : Bool) (result : TypeName) (n : Name) (ps : Params) (body : Stmts) where
@@ -173,6 +193,31 @@ module _ (b : Table) (low f : ℕ) (first : List (Option ℕ)) (ready : Ready b 
           (λ known. gives_if After (is_member_taken u c n true) (wrong f l Duplicate) (enter_method_head u f l c n (head_of u f text)) (λ e. tt)
           (λ free. subst (λ o. GivesSuch After (enter_method_head u f l c n o)) (sym (head_same b u (same_classes b u so.0.names) f text))
           (method_head u so (free_name u c n true free) (head_of b f text) refl (head_in b f (many b) ready.two ready.classes ready.publics l s result n ps body))))
+
+    -- the constructor
+    module _ (c : ℕ) (own : OwnIn (Some c)) (l : ℕ) (ps : Params) (body : Stmts) where
+      abbrev constructor_text : Fun
+      constructor_text = tree.constructor l ps body
+
+      abbrev ConstructorAfter : Table → Type 0
+      ConstructorAfter v = Went start (es ++ fun_entry b f (Some c) constructor_text ∷ []) v × ((h : Head) × (head_of b f constructor_text ≡ Some h))
+
+      constructor_head : (u : Table) → Went start es u → (o : Option Head)
+          → head_of b f constructor_text ≡ o → Holds (HeadIn (many b)) o → GivesSuch ConstructorAfter (enter_constructor_head u f l c o)
+      constructor_head u so None is range = tt
+      constructor_head u so (Some h) is range = (
+        went start es (es ++ fun_entry b f (Some c) constructor_text ∷ []) u (with_constructor u c h) so
+            (subst (λ x. SoFar b low f first (es ++ (x, Some c) ∷ []) (with_constructor u c h) × Grows u (with_constructor u c h)) (sym (ap or_no_head is))
+            (constructor_step b low f first ready u es so.0 c own.0 own.1 h range)),
+        (h, is),
+      )
+
+      constructor_went : (u : Table) → Went start es u → GivesSuch ConstructorAfter (enter_method u f c constructor_text)
+      constructor_went u so =
+          gives_if ConstructorAfter (has_unknown u f constructor_text) (wrong f l UnknownName) (if is_some (class_of u c).constructor then wrong f l Duplicate else enter_constructor_head u f l c (head_of u f constructor_text)) (λ e. tt)
+          (λ known. gives_if ConstructorAfter (is_some (class_of u c).constructor) (wrong f l Duplicate) (enter_constructor_head u f l c (head_of u f constructor_text)) (λ e. tt)
+          (λ first_one. subst (λ o. GivesSuch ConstructorAfter (enter_constructor_head u f l c o)) (sym (head_same b u (same_classes b u so.0.names) f constructor_text))
+          (constructor_head u so (head_of b f constructor_text) refl (constructor_in b f (many b) ready.two ready.classes ready.publics l ps body))))
 
     -- functions of the file
     module _ (l : ℕ) (s : Bool) (result : TypeName) (n : Name) (ps : Params) (body : Stmts) where
@@ -234,6 +279,21 @@ module _ (b : Table) (low f : ℕ) (first : List (Option ℕ)) (ready : Ready b 
           (more_members ms (fun_entry b f (Some c) text) w x.0.0, grows_then start v w so.0.1 x.0.1),
           (members_go (EnteredSoFar v f) (EnteredSoFar w f) b f (entered_grows f v w x.0.1) c ms so.1, x.1),
         )
+    member_went ms (fun_member (tree.constructor l ps body)) v so =
+        gives_map After (MembersAfter (and_member ms (fun_member text))) goes (enter_method v f c text)
+        (constructor_went v (es ++ member_entries b f c ms) c own l ps body v (so.0.0, grows_self v))
+      where
+        text : Fun
+        text = tree.constructor l ps body
+
+        After : Table → Type 0
+        After w = Went v ((es ++ member_entries b f c ms) ++ fun_entry b f (Some c) text ∷ []) w × ((h : Head) × (head_of b f text ≡ Some h))
+
+        goes : (w : Table) → After w → MembersAfter (and_member ms (fun_member text)) w
+        goes w x = (
+          (more_members ms (fun_entry b f (Some c) text) w x.0.0, grows_then start v w so.0.1 x.0.1),
+          (members_go (EnteredSoFar v f) (EnteredSoFar w f) b f (entered_grows f v w x.0.1) c ms so.1, x.1),
+        )
     member_went ms (stmt_member s) v so =
         gives_map (Went v (es ++ member_entries b f c ms)) (MembersAfter (and_member ms (stmt_member s))) goes
         (enter_stmt f (Some c) v s) (stmt_went v (es ++ member_entries b f c ms) (Some c) own v s (so.0.0, grows_self v))
@@ -253,6 +313,18 @@ module _ (b : Table) (low f : ℕ) (first : List (Option ℕ)) (ready : Ready b 
   abbrev ItemAfter : (start : Table) → List Entry → Item → Table → Type 0
   ItemAfter start es x v = Went start (es ++ item_entries b f x) v × ItemHolds (EnteredSoFar v f) b f x
 
+  -- a constructor outside a class is refused
+  constructor_refused : (P : Table → Type 0) (l : ℕ) (ps : Params) (body : Stmts) (v : Table) → GivesSuch P (enter_fun v f (tree.constructor l ps body))
+  constructor_refused P l ps body v =
+      gives_if P (has_unknown v f text) (wrong f l UnknownName) (refuse_constructor f l (head_of v f text)) (λ e. tt) (λ e. refused (head_of v f text))
+    where
+      text : Fun
+      text = tree.constructor l ps body
+
+      refused : (o : Option Head) → GivesSuch P (refuse_constructor f l o)
+      refused None = tt
+      refused (Some h) = tt
+
   item_went : (es : List Entry) (x : Item) (v : Table) → ClassHolds (λ c. (low ≤ c) × (c < many b)) b f x → SoFar b low f first es v → GivesSuch (ItemAfter v es x) (enter_item f v x)
   item_went es (class_item (tree.class l is_public n parent ms)) v own so =
       subst (λ d. GivesSuch (ItemAfter v es (class_item (tree.class l is_public n parent ms))) (enter_members f d (with_body v d ms) ms)) (sym (own_same b v (same_classes b v so.names) f n))
@@ -268,6 +340,7 @@ module _ (b : Table) (low f : ℕ) (first : List (Option ℕ)) (ready : Ready b 
       goes : (w : Table) → MembersAfter v (es ++ bodies) c own ms w → ItemAfter v es (class_item (tree.class l is_public n parent ms)) w
       goes w a = ((subst (λ k. SoFar b low f first k w) (append_assoc es bodies (member_entries b f c ms)) a.0.0, a.0.1), a.1)
   item_went es (fun_item (tree.fun l s result n ps body)) v own so = fun_went v es l s result n ps body v (so, grows_self v)
+  item_went es (fun_item (tree.constructor l ps body)) v own so = constructor_refused (ItemAfter v es (fun_item (tree.constructor l ps body))) l ps body v
   item_went es (stmt_item s) v own so =
       gives_map (Went v es) (ItemAfter v es (stmt_item s)) (λ w a. ((subst (λ k. SoFar b low f first k w) (sym (append-nil es)) a.0, a.1), tt))
       (enter_stmt f None v s) (stmt_went v es None tt v s (so, grows_self v))

@@ -15,12 +15,12 @@ use Rattle.type_table.specs.Names.{lookup}
 use Rattle.type_table.specs.declared.class.Class.{Class}
 use Rattle.type_table.specs.declared.class.Head.{Head}
 use Rattle.type_table.specs.Table.{Table, class_of, file_of, fun_of, or_no_head, plain_head, line_by, line_within, member_in, member_named, own_member, as_member, ancestors, overridden, new_table}
-use Rattle.type_table.proofs.Ranges.{Each, Within, ValueIn, many, HeadIn}
-use Rattle.first_walk.proofs.TableFacts.{Entry, items_entries, file_entries, heads_of, owners_of, SameTypes, SameClass, IsClassOf, IsTable, IsLater, Dispatched, Owned, Overrides, IsOwn, IsBodyOf, IsEntered}
+use Rattle.type_table.proofs.Ranges.{Each, Within, ValueIn, ResultIn, many, HeadIn}
+use Rattle.first_walk.proofs.TableFacts.{Entry, items_entries, file_entries, heads_of, owners_of, SameTypes, SameClass, IsClassOf, IsTable, IsLater, Dispatched, Owned, Overrides, IsOwn, IsBodyOf, IsConstructorOf, IsEntered}
 use Rattle.type_table.proofs.ListFacts.{Holds, holds_at, holds_else, each_map, within_then, get_within, found_is}
 use Rattle.first_walk.proofs.SameNames.{GivesSuch, gives_at, gives_then, gives_map, same_classes, ancestors_same, overridden_same, items_same}
 use Rattle.first_walk.proofs.LinesBelow.{child_is_below}
-use Rattle.first_walk.proofs.Growth.{MayOverride, OwnedSoFar, OwnSoFar, BodySoFar, ClassSoFar}
+use Rattle.first_walk.proofs.Growth.{MayOverride, OwnedSoFar, OwnSoFar, BodySoFar, ConstructorSoFar, ClassSoFar}
 use Rattle.first_walk.proofs.EnterSteps.{Ready, SoFar, counts}
 use Rattle.first_walk.proofs.EnterText.{EnteredSoFar, ItemsAfter, items_went}
 use Rattle.first_walk.proofs.TextFuns.{FunsHold, ClassesHold, funs_go, funs_keep, classes_keep}
@@ -134,12 +134,17 @@ module _ (t : Table) (f : ℕ) (before : List (Option ℕ)) (is : IsTable t befo
 
     own_is : (c : ℕ) (m : Name × Own) → OwnSoFar b u.funs u.statics owners c (class_of u c).fields m → IsOwn u owners c m
     own_is c (n, own.Field i k) so_far = so_far
-    own_is c (n, own.Static v) so_far = so_far
+    own_is c (n, own.Static v) so_far = (so_far.0, subst (λ m. ValueIn m v.kind) (sym so.names.many_same) so_far.1)
+    own_is c (n, own.Auto) so_far = tt
     own_is c (n, own.Fun g d) so_far = owned_is c n g so_far.0 d (fun_is g so_far.0 so_far.1) so_far.2
 
     body_is : (c : ℕ) (o : Option ℕ) → BodySoFar u.funs owners c o → IsBodyOf u owners c o
     body_is c None so_far = tt
     body_is c (Some g) so_far = so_far
+
+    constructor_is : (c : ℕ) (o : Option ℕ) → ConstructorSoFar owners c o → IsConstructorOf owners c o
+    constructor_is c None so_far = tt
+    constructor_is c (Some g) so_far = so_far
 
     class_is : (c : ℕ) → c < many u → IsClassOf u owners c
     class_is c lt = record {
@@ -149,6 +154,7 @@ module _ (t : Table) (f : ℕ) (before : List (Option ℕ)) (is : IsTable t befo
       slots = k.slots;
       heads = all_entered c;
       body = body_is c (class_of u c).body k.body;
+      constructor_is = constructor_is c (class_of u c).constructor k.constructor_so_far;
     }
       where
         k : ClassSoFar b u.funs u.statics owners c (class_of u c)
@@ -168,7 +174,7 @@ module _ (t : Table) (f : ℕ) (before : List (Option ℕ)) (is : IsTable t befo
       lines = λ c lt. subst (λ p. is_below p c 0 ≡ true) (sym so.names.parents) (base.lines c (omega (arith, lt, so.names.many_same)));
       publics = subst (λ p. Each (λ (e : Name × ℕ). e.1 < many u) p) (sym so.names.publics) (subst (λ m. Each (λ (e : Name × ℕ). e.1 < m) b.publics) (sym so.names.many_same) base.publics);
       files = so.files;
-      statics = subst (λ m. Each (ValueIn m) u.statics) (sym so.names.many_same) so.statics;
+      statics = subst (λ m. Each (ResultIn m) u.statics) (sym so.names.many_same) so.statics;
       heads = subst (λ m. Each (HeadIn m) u.funs) (sym so.names.many_same) so.heads;
       classes = class_is;
     }
@@ -178,7 +184,7 @@ module _ (t : Table) (f : ℕ) (before : List (Option ℕ)) (is : IsTable t befo
       more = low_le;
       parents = parents_within;
       funs = funs_within;
-      statics = subst (λ l. Within l u.statics) base.statics so.grown;
+      statics = λ i k at some. get_within t.statics u.statics i k (subst (λ l. Within l u.statics) base.statics so.grown) at;
       classes = λ c lt. subst (λ k. SameClass k (class_of u c)) (base.old c lt) (so.older c lt);
     }
 
@@ -280,6 +286,6 @@ new_table_is = record {
     below_object (suc (suc c)) lt = absurd (omega (arith, lt))
 
     empty_class : (c : ℕ) → c < 2 → IsClassOf new_table [] c
-    empty_class zero lt = record { members = tt; found = tt; fields = tt; slots = refl; heads = λ n h at. absurd (cc); body = tt }
-    empty_class (suc zero) lt = record { members = tt; found = tt; fields = tt; slots = refl; heads = λ n h at. absurd (cc); body = tt }
+    empty_class zero lt = record { members = tt; found = tt; fields = tt; slots = refl; heads = λ n h at. absurd (cc); body = tt; constructor_is = tt }
+    empty_class (suc zero) lt = record { members = tt; found = tt; fields = tt; slots = refl; heads = λ n h at. absurd (cc); body = tt; constructor_is = tt }
     empty_class (suc (suc c)) lt = absurd (omega (arith, lt))

@@ -38,6 +38,7 @@ module _ (f : ℕ) where
 
   head_files : (c : ℕ) (t : Table) (m : Member) → (with_head f c t m).files ≡ t.files
   head_files c t (fun_member (tree.fun l s result n ps body)) = refl
+  head_files c t (fun_member (tree.constructor l ps body)) = refl
   head_files c t (stmt_member s) = refl
 
   heads_of_files : (c : ℕ) (t : Table) (ms : Members) → (with_heads_of f c t ms).files ≡ t.files

@@ -1,6 +1,6 @@
 -- What is right of a class while its members are entered: all but that each function of its text is there. It stays so
 -- as the rows of functions and statics grow.
-use Rattle.std.proofs.Common.{◌≡◌, ℕ, zero, suc, ◌<◌, ◌≤◌, true, false, List, [], ◌∷◌, ◌++◌, Option, Some, None, slice_get, slice_set, refl, sym, ap, ◌∙◌, subst, arith}
+use Rattle.std.proofs.Common.{◌≡◌, ℕ, zero, suc, ◌<◌, ◌≤◌, true, false, List, [], ◌∷◌, ◌++◌, Option, Some, None, slice_get, slice_set, refl, sym, ap, ◌∙◌, subst, arith, length, length-append}
 use Rattle.std.proofs.lemmas.List.{length-set}
 use Rattle.ck_values.specs.declared.kind.Kind.{Kind}
 use Rattle.ck_syntax.specs.Tree.{Name}
@@ -59,12 +59,17 @@ OwnedSoFar b owners c n f h by.Override = (h.is_static ≡ false) × (slice_get 
 
 abbrev pub OwnSoFar : Table → (funs : List Head) → (statics : List Kind) → (owners : List (Option ℕ)) → (class : ℕ) → (fields : List Kind) → Name × Own → Type 0
 OwnSoFar b funs statics owners c fields (n, own.Field i k) = slice_get fields i ≡ Some k
-OwnSoFar b funs statics owners c fields (n, own.Static v) = slice_get statics v.index ≡ Some v.kind
+OwnSoFar b funs statics owners c fields (n, own.Static v) = (slice_get statics v.index ≡ Some v.kind) × ValueIn (many b) v.kind
+OwnSoFar b funs statics owners c fields (n, own.Auto) = Unit {0}
 OwnSoFar b funs statics owners c fields (n, own.Fun f d) = (h : Head) × (slice_get funs f ≡ Some h) × OwnedSoFar b owners c n f h d
 
 abbrev pub BodySoFar : (funs : List Head) → (owners : List (Option ℕ)) → (class : ℕ) → Option ℕ → Type 0
 BodySoFar funs owners c None = Unit {0}
 BodySoFar funs owners c (Some f) = (slice_get owners f ≡ Some (Some c)) × (slice_get funs f ≡ Some (plain_head false))
+
+abbrev pub ConstructorSoFar : (owners : List (Option ℕ)) → (class : ℕ) → Option ℕ → Type 0
+ConstructorSoFar owners c None = Unit {0}
+ConstructorSoFar owners c (Some f) = slice_get owners f ≡ Some (Some c)
 
 pub record ClassSoFar (b : Table) (funs : List Head) (statics : List Kind) (owners : List (Option ℕ)) (c : ℕ) (k : Class) : Type 0 where
   pub members : Each (OwnSoFar b funs statics owners c k.fields) k.members
@@ -72,6 +77,7 @@ pub record ClassSoFar (b : Table) (funs : List Head) (statics : List Kind) (owne
   pub fields : Each (ValueIn (many b)) k.fields
   pub slots : new_slots k.members ≡ numbers k.slots
   pub body : BodySoFar funs owners c k.body
+  pub constructor_so_far : ConstructorSoFar owners c k.constructor
 
 module _ (b : Table) (funs more_funs : List Head) (statics more_statics : List Kind) (owners more_owners : List (Option ℕ))
     (wf : Within funs more_funs) (ws : Within statics more_statics) (wo : Within owners more_owners) (c : ℕ) where
@@ -83,12 +89,17 @@ module _ (b : Table) (funs more_funs : List Head) (statics more_statics : List K
   own_grows : (fields more_fields : List Kind) → Within fields more_fields → (m : Name × Own)
       → OwnSoFar b funs statics owners c fields m → OwnSoFar b more_funs more_statics more_owners c more_fields m
   own_grows fields more wk (n, own.Field i k) so = get_within fields more i k wk so
-  own_grows fields more wk (n, own.Static v) so = get_within statics more_statics v.index v.kind ws so
+  own_grows fields more wk (n, own.Static v) so = (get_within statics more_statics v.index v.kind ws so.0, so.1)
+  own_grows fields more wk (n, own.Auto) so = tt
   own_grows fields more wk (n, own.Fun f d) so = (so.0, get_within funs more_funs f so.0 wf so.1, owned_grows n f so.0 d so.2)
 
   body_grows : (body : Option ℕ) → BodySoFar funs owners c body → BodySoFar more_funs more_owners c body
   body_grows None so = tt
   body_grows (Some f) so = (get_within owners more_owners f (Some c) wo so.0, get_within funs more_funs f (plain_head false) wf so.1)
+
+  constructor_grows : (o : Option ℕ) → ConstructorSoFar owners c o → ConstructorSoFar more_owners c o
+  constructor_grows None so = tt
+  constructor_grows (Some f) so = get_within owners more_owners f (Some c) wo so
 
   pub class_grows : (k : Class) → ClassSoFar b funs statics owners c k → ClassSoFar b more_funs more_statics more_owners c k
   class_grows k so = record {
@@ -97,21 +108,23 @@ module _ (b : Table) (funs more_funs : List Head) (statics more_statics : List K
     fields = so.fields;
     slots = so.slots;
     body = body_grows k.body so.body;
+    constructor_so_far = constructor_grows k.constructor so.constructor_so_far;
   }
 
   new_slots_push : (ms : List (Name × Own)) (m : Name × Own) → new_slots (ms ++ m ∷ []) ≡ new_slots ms ++ new_slots (m ∷ [])
   new_slots_push [] m = refl
   new_slots_push ((n, own.Field i k) ∷ ms) m = new_slots_push ms m
   new_slots_push ((n, own.Static v) ∷ ms) m = new_slots_push ms m
+  new_slots_push ((n, own.Auto) ∷ ms) m = new_slots_push ms m
   new_slots_push ((n, own.Fun f by.Static) ∷ ms) m = new_slots_push ms m
   new_slots_push ((n, own.Fun f (by.NewSlot k)) ∷ ms) m = ap (λ l. k ∷ l) (new_slots_push ms m)
   new_slots_push ((n, own.Fun f by.Override) ∷ ms) m = new_slots_push ms m
 
   -- a class gets one member more
   pub class_more : (k l : Class) (n : Name) (o : Own) → Within k.fields l.fields → Each (ValueIn (many b)) l.fields → l.members ≡ k.members ++ (n, o) ∷ [] → lookup n k.members ≡ None
-      → OwnSoFar b more_funs more_statics more_owners c l.fields (n, o) → numbers k.slots ++ new_slots ((n, o) ∷ []) ≡ numbers l.slots → l.body ≡ k.body
+      → OwnSoFar b more_funs more_statics more_owners c l.fields (n, o) → numbers k.slots ++ new_slots ((n, o) ∷ []) ≡ numbers l.slots → l.body ≡ k.body → l.constructor ≡ k.constructor
       → ClassSoFar b funs statics owners c k → ClassSoFar b more_funs more_statics more_owners c l
-  class_more k l n o wk fields members new one slots body so = record {
+  class_more k l n o wk fields members new one slots body made so = record {
     members = subst (Each (OwnSoFar b more_funs more_statics more_owners c l.fields)) (sym members)
         (each_push (OwnSoFar b more_funs more_statics more_owners c l.fields) k.members (n, o)
         (each_map (OwnSoFar b funs statics owners c k.fields) (OwnSoFar b more_funs more_statics more_owners c l.fields) (own_grows k.fields l.fields wk) k.members so.members) one);
@@ -123,6 +136,7 @@ module _ (b : Table) (funs more_funs : List Head) (statics more_statics : List K
     fields = fields;
     slots = ap new_slots members ∙ new_slots_push k.members (n, o) ∙ ap (λ s. s ++ new_slots ((n, o) ∷ [])) so.slots ∙ slots;
     body = subst (BodySoFar more_funs more_owners c) (sym body) (body_grows k.body so.body);
+    constructor_so_far = subst (ConstructorSoFar more_owners c) (sym made) (constructor_grows k.constructor so.constructor_so_far);
   }
     where
       all : List (Name × Own)
@@ -130,13 +144,16 @@ module _ (b : Table) (funs more_funs : List Head) (statics more_statics : List K
 
 -- files ---------------------------------------------------------------------------------------------
 
+within_length : {A : Type 0} (xs ys : List A) → Within xs ys → length xs ≤ length ys
+within_length xs ys more = omega (arith, ap length more.1 ∙ length-append xs more.0)
+
 pub file_grows : (t u : Table) (owners more : List (Option ℕ)) (file : File) → many t ≤ many u → Within t.statics u.statics → Within owners more → IsFileOf t owners file → IsFileOf u more file
 file_grows t u owners more file le ws wo so = record {
   classes = each_map (λ (e : Name × ℕ). e.1 < many t) (λ (e : Name × ℕ). e.1 < many u) (λ e lt. omega (arith, le, lt)) file.classes so.classes;
   funs = each_map (λ (e : Name × ℕ). slice_get owners e.1 ≡ Some None) (λ (e : Name × ℕ). slice_get more e.1 ≡ Some None) (λ e is. get_within owners more e.1 None wo is) file.funs so.funs;
   variables =
-      each_map (λ e. slice_get t.statics e.1.index ≡ Some e.1.kind) (λ e. slice_get u.statics e.1.index ≡ Some e.1.kind)
-      (λ e is. get_within t.statics u.statics e.1.index e.1.kind ws is) file.variables so.variables;
+      each_map (λ (e : Name × ℕ). e.1 < length t.statics) (λ (e : Name × ℕ). e.1 < length u.statics)
+      (λ e lt. omega (arith, lt, within_length t.statics u.statics ws)) file.variables so.variables;
 }
 
 pub no_file_is : (t : Table) (owners : List (Option ℕ)) → IsFileOf t owners no_file

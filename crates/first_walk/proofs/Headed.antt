@@ -45,6 +45,7 @@ module _ (u : Table) (low f : ℕ) where
         where
           k : Class
           k = record (class_of w c) { heads = and_first n (head_of w f (tree.fun l s result n ps body)) (class_of w c).heads }
+      member_headed (fun_member (tree.constructor l ps body)) = so
       member_headed (stmt_member s) = so
 
       member_noted : (Q : Option ℕ → Name → Option Head → Type 0) (g : tree.Fun) → FunHolds Q u f (Some c) g → Noted Q low w → Noted Q low (with_head f c w (fun_member g))
@@ -61,6 +62,7 @@ module _ (u : Table) (low f : ℕ) where
           here at =
               each_first (λ (e : Name × Option Head). Q (Some c) e.0 e.1) n (head_of w f g) (class_of w c).heads
               (noted c at) (subst (Q (Some c) n) (sym (head_same u w (headed_classes low u w so) f g)) holds)
+      member_noted Q (tree.constructor l ps body) holds noted d le = noted d le
 
     members_headed : (w : Table) → Headed low u w → (ms : Members) → Headed low u (with_heads_of f c w ms)
     members_headed w so no_members = so

@@ -1,6 +1,7 @@
 -- A function whose types are types names none that is unknown.
 use Rattle.std.proofs.Common.{◌≡◌, ℕ, Bool, false, ◌||◌, List, [], ◌∷◌, ◌++◌, Option, Some, None, refl, sym, ap, ◌∙◌}
 use Rattle.ck_values.specs.declared.kind.Kind.{Kind}
+use Rattle.ck_values.specs.declared.kind.Kind.TheVariants.{Void}
 use Rattle.ck_syntax.specs.Tree as tree
 use Rattle.ck_syntax.specs.Tree.{Params, no_params, and_param}
 use Rattle.type_table.specs.declared.class.Head.{Head}
@@ -52,3 +53,5 @@ module _ (t : Table) (f : ℕ) where
       let parts = head_parts s (param_kinds t f ps) (result_kind (named_by t f result.base) result.brackets) h is in
       ap (λ b. b || names_unknown t f ps) (result_known (named_by t f result.base) result.brackets h.result parts.1)
       ∙ params_known ps h.params parts.0
+  known (tree.constructor l ps body) h is =
+      params_known ps h.params (head_parts false (param_kinds t f ps) (Some Void) h is).0

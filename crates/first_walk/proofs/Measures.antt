@@ -14,7 +14,7 @@ use Rattle.type_table.specs.declared.class.Own.TheVariants as own
 use Rattle.type_table.specs.Names.{and_first}
 use Rattle.type_table.specs.Table.{Table, no_file, or_no_class, or_no_file, and_own, class_of, file_of, plain_head, named_class}
 use Rattle.type_table.proofs.ListFacts.{get_last, push_cases, set_keeps}
-use Rattle.first_walk.specs.FirstWalk.{begun, with_class, with_dispatch, with_field, with_member, with_method, with_static, next_static, slots_with, has_statement, with_body}
+use Rattle.first_walk.specs.FirstWalk.{begun, with_class, with_dispatch, with_field, with_member, with_method, with_static, next_static, with_constructor, slots_with, has_statement, with_body}
 use Rattle.first_walk.specs.Room.{entries, declared, declared_by}
 use Rattle.first_walk.proofs.RoomFacts.{IsMeasure}
 
@@ -47,6 +47,12 @@ static_more t c n k = simp (length-set, length-append) (omega arith)
 braces_more : (t : Table) (c : ℕ) → entries (with_braces t c) ≡ entries t + 1
 braces_more t c = simp (length-set, length-append) (omega arith)
 
+auto_same : (t : Table) (c : ℕ) (n : Name) → entries (with_member t c n own.Auto) ≡ entries t
+auto_same t c n = simp length-set
+
+constructor_more : (t : Table) (c : ℕ) (h : Head) → entries (with_constructor t c h) ≡ entries t + 1
+constructor_more t c h = simp (length-set, length-append) (omega arith)
+
 pub counts_entries : IsMeasure entries
 counts_entries = record {
   new_class = λ t f is_public n.
@@ -58,6 +64,8 @@ counts_entries = record {
   variable = λ t f n k. omega (arith, length-append t.statics (k ∷ []));
   static = λ t c n k. omega (arith, static_more t c n k);
   field = λ t c n k. omega (arith, field_same t c n k);
+  auto_member = λ t c n. omega (arith, auto_same t c n);
+  construct = λ t c h. omega (arith, constructor_more t c h);
   body = λ t c ms.
       if_up entries (entries t + 1) (has_statement ms) (with_braces t c) t (omega (arith, braces_more t c)) (omega arith);
 }
@@ -126,6 +134,10 @@ module _ (d : ℕ) where
   body_kept t c ms =
       if_up (declared d) (declared d t) (has_statement ms) (with_braces t c) t (braces_kept t c) (omega arith)
 
+  constructor_kept : (t : Table) (c : ℕ) (h : Head) → declared d (with_constructor t c h) ≤ declared d t
+  constructor_kept t c h =
+      omega (arith, raised t.classes c d (record (class_of t c) { constructor = Some (length t.funs) }) 0 (omega arith))
+
 pub counts_declared : (o : Option ℕ) → IsMeasure (declared_by o)
 counts_declared None = record {
   new_class = λ t f is_public n. omega arith;
@@ -136,6 +148,8 @@ counts_declared None = record {
   variable = λ t f n k. omega arith;
   static = λ t c n k. omega arith;
   field = λ t c n k. omega arith;
+  auto_member = λ t c n. omega arith;
+  construct = λ t c h. omega arith;
   body = λ t c ms. omega arith;
 }
 counts_declared (Some d) = record {
@@ -147,6 +161,8 @@ counts_declared (Some d) = record {
   variable = λ t f n k. omega arith;
   static = λ t c n k. omega (arith, static_kept d t c n k);
   field = λ t c n k. field_declares d t c n k;
+  auto_member = λ t c n. omega (arith, member_kept d t c n own.Auto);
+  construct = λ t c h. omega (arith, constructor_kept d t c h);
   body = λ t c ms. omega (arith, body_kept d t c ms);
 }
 
@@ -183,10 +199,12 @@ counts_main g = record {
       omega (
         arith,
         file_kept t.files f g
-            (record (file_of t f) { variables = and_first n (next_static t k) (file_of t f).variables }) refl,
+            (record (file_of t f) { variables = and_first n (length t.statics) (file_of t f).variables }) refl,
       );
   static = λ t c n k. omega arith;
   field = λ t c n k. omega arith;
+  auto_member = λ t c n. omega arith;
+  construct = λ t c h. omega arith;
   body = λ t c ms.
       if_up (main_of g) (main_of g t + 1) (has_statement ms) (with_braces t c) t (omega arith) (omega arith);
 }

@@ -1,15 +1,19 @@
 -- The walks over the parameters of a function and the members of a class.
 use Rattle.std.proofs.Common.{◌≡◌, ℕ, Bool, true, ◌||◌, List, [], ◌∷◌, Option, refl}
 use Rattle.ck_values.specs.declared.kind.Kind.{Kind}
+use Rattle.ck_syntax.specs.declared.file.FunDef.{FunDef}
+use Rattle.ck_syntax.specs.declared.file.FunHead.{FunHead}
+use Rattle.ck_syntax.specs.declared.file.FunHead.TheVariants as head
 use Rattle.ck_syntax.specs.declared.file.Member.{Member}
 use Rattle.ck_syntax.specs.declared.file.Member.TheVariants.{Fun, Stmt}
 use Rattle.ck_syntax.specs.declared.file.Param.{Param}
-use Rattle.ck_syntax.specs.Tree.{Params, and_param, Members, and_member, fun_member, stmt_member}
-use Rattle.ck_syntax.specs.View.{params_of, view_fun, view_stmt, view_member, members_of}
+use Rattle.ck_syntax.specs.Tree.{Params, no_params, and_param, Stmts, no_stmts, Members, and_member, fun_member, stmt_member}
+use Rattle.ck_syntax.specs.View.{params_of, stmts_of, headed, view_fun, view_stmt, view_member, members_of}
 use Rattle.type_table.specs.Answer.{Answer}
 use Rattle.type_table.specs.Table.{Table}
 use Rattle.type_table.specs.Types.{named_by, is_unknown}
-use Rattle.first_walk.specs.FirstWalk.{and_kind, param_kind, param_kinds, names_unknown, with_head, with_heads_of, enter_member, enter_members, has_statement}
+use Rattle.first_walk.specs.FirstWalk.{and_kind, param_kind, param_kinds, head_with, head_of, names_unknown, has_unknown, with_head, with_heads_of, enter_member, enter_members, has_statement}
+use Rattle.first_walk.specs.Steps.{result_of, says_static, has_unknown_result}
 use Rattle.type_table.proofs.Walks.{run, on}
 
 module _ (t : Table) (f : ℕ) where
@@ -28,6 +32,24 @@ module _ (t : Table) (f : ℕ) where
       → names_unknown t f (params_of before params) ≡ run one_unknown (names_unknown t f before) params
   unknown_run before [] = refl
   unknown_run before (p ∷ params) = unknown_run (and_param before p) params
+
+-- what a head says
+module _ (t : Table) (f l : ℕ) (ps : Params) (body : Stmts) where
+  head_says : (x : FunHead) → head_of t f (headed l x ps body) ≡ head_with (says_static x) (param_kinds t f ps) (result_of t f x)
+  head_says (head.Named is_static result name) = refl
+  head_says head.Construct = refl
+
+  unknown_says : (x : FunHead) → has_unknown t f (headed l x ps body) ≡ has_unknown_result t f x || names_unknown t f ps
+  unknown_says (head.Named is_static result name) = refl
+  unknown_says head.Construct = refl
+
+-- the types of a function of the program
+module _ (t : Table) (f : ℕ) (x : FunDef) where
+  pub headed_is : head_of t f (view_fun x) ≡ head_with (says_static x.head) (param_kinds t f (params_of no_params x.params)) (result_of t f x.head)
+  headed_is = head_says t f x.line (params_of no_params x.params) (stmts_of no_stmts x.body) x.head
+
+  pub unknown_is : has_unknown t f (view_fun x) ≡ has_unknown_result t f x.head || names_unknown t f (params_of no_params x.params)
+  unknown_is = unknown_says t f x.line (params_of no_params x.params) (stmts_of no_stmts x.body) x.head
 
 module _ (f c : ℕ) where
   abbrev pub one_head : Table → Member → Table

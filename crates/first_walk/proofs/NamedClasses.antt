@@ -25,9 +25,10 @@ pub record IsEmpty (k : Class) : Type 0 where
   pub fields : k.fields ≡ []
   pub slots : k.slots ≡ 0
   pub body : k.body ≡ None
+  pub constructor_none : k.constructor ≡ None
 
 pub no_class_empty : IsEmpty no_class
-no_class_empty = record { heads = refl; members = refl; fields = refl; slots = refl; body = refl }
+no_class_empty = record { heads = refl; members = refl; fields = refl; slots = refl; body = refl; constructor_none = refl }
 
 -- a number is new and known
 abbrev pub IsNew : (low all : ℕ) → ℕ → Type 0
@@ -90,7 +91,7 @@ module _ (t : Table) (f : ℕ) (owners : List (Option ℕ)) (two : 2 ≤ many t)
     classes_grow = ((n, many u) ∷ [], ap (λ (x : File). x.classes) file_is ∙ and_new n (many u) (file_of u f).classes new)
 
     empty_more : (c : ℕ) → many t ≤ c → IsEmpty (class_of one_more c)
-    empty_more c le = push_cases (λ o. IsEmpty (or_no_class o)) u.classes (named_class f p n) c (so.empty c le) (record { heads = refl; members = refl; fields = refl; slots = refl; body = refl })
+    empty_more c le = push_cases (λ o. IsEmpty (or_no_class o)) u.classes (named_class f p n) c (so.empty c le) (record { heads = refl; members = refl; fields = refl; slots = refl; body = refl; constructor_none = refl })
 
     new_parents_more : (c : ℕ) → many t ≤ c → parent one_more c ≡ 0
     new_parents_more c le = push_cases (λ o. parent_or o ≡ 0) u.parents 0 c (so.new_parents c le) refl

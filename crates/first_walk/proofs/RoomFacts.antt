@@ -2,23 +2,26 @@
 -- its text has tokens.
 use Rattle.std.proofs.Common.{◌≡◌, ℕ, ◌+◌, ◌*◌, ◌≤◌, Bool, true, false, not, ◌||◌, nat_eq, List, Option, Some, None, slice_set, if◌then◌else◌, arith}
 use Rattle.ck_values.specs.declared.kind.Kind.{Kind}
+use Rattle.ck_values.specs.declared.kind.Kind.TheVariants.{Void}
+use Rattle.ck_syntax.specs.declared.declaration.Base.{Base}
 use Rattle.ck_syntax.specs.declared.declaration.DeclHead.{DeclHead}
 use Rattle.ck_syntax.specs.declared.expr.Bracket.{Bracket, Empty, Size'}
 use Rattle.ck_syntax.specs.Size.{expr_size, exprs_size, brackets_size, declr_size, declrs_size, option_size, stmt_size, fun_size, member_size, members_size, class_size, item_size, items_size}
 use Rattle.ck_syntax.specs.Tree as tree
 use Rattle.ck_syntax.specs.View.{view_kind}
-use Rattle.ck_syntax.specs.Tree.{Name, Expr, Exprs, no_exprs, and_expr, Brackets, no_brackets, and_empty, and_size, Declr, Declrs, no_declrs, and_declr, declr, Stmt, Fun, fun, Member, fun_member, stmt_member, Members, no_members, and_member, class, Item, class_item, fun_item, stmt_item, no_items, and_item}
+use Rattle.ck_syntax.specs.Tree.{Name, Expr, Exprs, no_exprs, and_expr, Brackets, no_brackets, and_empty, and_size, Declr, Declrs, no_declrs, and_declr, declr, declr_with, declr_name, Stmt, Fun, fun, constructor, Member, fun_member, stmt_member, Members, no_members, and_member, class, Item, class_item, fun_item, stmt_item, no_items, and_item}
 use Rattle.type_rules.specs.Fitting.{is_below}
 use Rattle.type_table.specs.declared.class.Dispatch.{Dispatch}
 use Rattle.type_table.specs.declared.class.Head.{Head}
+use Rattle.type_table.specs.declared.class.Own.TheVariants as own
 use Rattle.type_table.specs.Answer.{Answer, gives, and_then}
 use Rattle.type_table.specs.Names.{is_some, built_in, as_class, and_first}
 use Rattle.type_table.specs.Table.{Table, class_of, parent, ancestors, overridden, class_named}
 use Rattle.type_table.specs.NameClash.{is_event_call, is_member_taken}
-use Rattle.type_table.specs.Types.{named_by, is_unknown, declared_kind, may_be_static}
+use Rattle.type_table.specs.Types.{named_by, is_unknown, written_kind, may_be_static}
 use Rattle.type_table.proofs.Weights as weights
 use Rattle.type_table.proofs.Weights.{comma_more, bracketed_more, declrs_comma}
-use Rattle.first_walk.specs.FirstWalk.{with_class, begun, with_new_class, with_class_named, with_item_named, with_classes, own_class, extended, with_parent, with_parents, check_line, check_extended, check_parent, check_parents, head_of, has_unknown, with_head, with_heads_of, with_item_heads, with_heads, is_name_taken, may_override, new_dispatch, old_dispatch, with_method, enter_beside, enter_method_head, enter_method, enter_fun_head, enter_fun, with_fun, with_variable, with_static, with_field, is_taken, enter_of_kind, enter_declared, enter_expr, enter_exprs, enter_brackets, enter_declrs, enter_option, enter_stmt, enter_member, enter_members, with_body, enter_item, enter_items, entered}
+use Rattle.first_walk.specs.FirstWalk.{with_class, begun, with_new_class, with_class_named, with_item_named, with_classes, own_class, extended, with_parent, with_parents, check_line, check_extended, check_parent, check_parents, head_of, has_unknown, with_head, with_heads_of, with_item_heads, with_heads, is_name_taken, may_override, new_dispatch, old_dispatch, with_method, enter_beside, enter_method_head, with_constructor, enter_constructor_head, enter_method, enter_fun_head, refuse_constructor, enter_fun, with_fun, with_member, with_variable, with_static, with_field, is_taken, enter_of_kind, is_misplaced, with_auto, enter_based, enter_declared, enter_expr, enter_exprs, enter_behind, enter_brackets, enter_declrs, enter_option, enter_stmt, enter_member, enter_members, with_body, enter_item, enter_items, entered}
 use Rattle.first_walk.specs.Steps.{bracket_entered, declr_entered}
 use Rattle.first_walk.proofs.SameNames.{GivesSuch, gives_at, gives_then}
 
@@ -33,7 +36,9 @@ pub record IsMeasure (m : Table → ℕ) : Type 0 where
   pub variable : (t : Table) (f : ℕ) (n : Name) (k : Kind) → m (with_variable t f n k) ≤ m t + 1
   pub static : (t : Table) (c : ℕ) (n : Name) (k : Kind) → m (with_static t c n k) ≤ m t + 1
   pub field : (t : Table) (c : ℕ) (n : Name) (k : Kind) → m (with_field t c n k) ≤ m t + 1
+  pub auto_member : (t : Table) (c : ℕ) (n : Name) → m (with_member t c n own.Auto) ≤ m t + 1
   pub body : (t : Table) (c : ℕ) (ms : Members) → m (with_body t c ms) ≤ m t + 1
+  pub construct : (t : Table) (c : ℕ) (h : Head) → m (with_constructor t c h) ≤ m t + 1
 
 module _ (m : Table → ℕ) (is_measure : IsMeasure m) (f : ℕ) where
   -- what is given has at most so much
@@ -108,6 +113,7 @@ module _ (m : Table → ℕ) (is_measure : IsMeasure m) (f : ℕ) where
   head_kept : (c : ℕ) (t : Table) (x : Member) → m (with_head f c t x) ≤ m t
   head_kept c t (fun_member (fun l s result n ps body)) =
       is_measure.heads t c (and_first n (head_of t f (fun l s result n ps body)) (class_of t c).heads)
+  head_kept c t (fun_member (constructor l ps body)) = omega arith
   head_kept c t (stmt_member s) = omega arith
 
   heads_of_kept : (c : ℕ) (t : Table) (ms : Members) → m (with_heads_of f c t ms) ≤ m t
@@ -138,11 +144,24 @@ module _ (m : Table → ℕ) (is_measure : IsMeasure m) (f : ℕ) where
   method_head_up n t l c name (Some h) le =
       if_up n (is_event_call t c name) _ _ tt (beside_up n t l c name h (overridden t (ancestors t c) name) le)
 
+  constructor_head_up : (n : ℕ) (t : Table) (l c : ℕ) (h : Option Head) → m t + 1 ≤ n
+      → UpTo n (enter_constructor_head t f l c h)
+  constructor_head_up n t l c None le = tt
+  constructor_head_up n t l c (Some h) le = omega (arith, le, is_measure.construct t c h)
+
   method_up : (n : ℕ) (t : Table) (c : ℕ) (g : Fun) → m t + fun_size g ≤ n → UpTo n (enter_method t f c g)
   method_up n t c (fun l s result name ps body) le =
       if_up n (has_unknown t f (fun l s result name ps body)) _ _ tt
       (if_up n (is_member_taken t c name true) _ _ tt
       (method_head_up n t l c name (head_of t f (fun l s result name ps body)) (omega (arith, le))))
+  method_up n t c (constructor l ps body) le =
+      if_up n (has_unknown t f (constructor l ps body)) _ _ tt
+      (if_up n (is_some (class_of t c).constructor) _ _ tt
+      (constructor_head_up n t l c (head_of t f (constructor l ps body)) (omega (arith, le))))
+
+  refused_up : (n l : ℕ) (h : Option Head) → UpTo n (refuse_constructor f l h)
+  refused_up n l None = tt
+  refused_up n l (Some h) = tt
 
   fun_head_up : (n : ℕ) (t : Table) (l : ℕ) (name : Name) (h : Option Head) → m t + 1 ≤ n
       → UpTo n (enter_fun_head t f l name h)
@@ -154,6 +173,9 @@ module _ (m : Table → ℕ) (is_measure : IsMeasure m) (f : ℕ) where
       if_up n (has_unknown t f (fun l s result name ps body)) _ _ tt
       (if_up n (is_name_taken t f name) _ _ tt
       (fun_head_up n t l name (head_of t f (fun l s result name ps body)) (omega (arith, le))))
+  fun_up n t (constructor l ps body) le =
+      if_up n (has_unknown t f (constructor l ps body)) _ _ tt
+      (refused_up n l (head_of t f (constructor l ps body)))
 
   -- variables and fields --------------------------------------------------------------------------
 
@@ -165,11 +187,22 @@ module _ (m : Table → ℕ) (is_measure : IsMeasure m) (f : ℕ) where
       if_up n (not h.is_static) _ _ (omega (arith, le, is_measure.field t c name k))
       (if_up n (may_be_static h k) _ _ (omega (arith, le, is_measure.static t c name k)) tt)
 
-  declared_up : (n : ℕ) (t : Table) (l : ℕ) (o : Option ℕ) (h : DeclHead) (name : Name) (bs : Brackets)
-      → m t + 1 ≤ n → UpTo n (enter_declared t f l o h name bs)
-  declared_up n t l o h name bs le =
-      if_up n (is_unknown (named_by t f h.base)) _ _ tt
-      (if_up n (is_taken t f o name) _ _ tt (of_kind_up n t l o h name (declared_kind h (named_by t f h.base) bs) le))
+  auto_up : (n : ℕ) (t : Table) (o : Option ℕ) (name : Name) → m t + 1 ≤ n → m (with_auto t f o name) ≤ n
+  auto_up n t None name le = omega (arith, le, is_measure.variable t f name Void)
+  auto_up n t (Some c) name le = omega (arith, le, is_measure.auto_member t c name)
+
+  based_up : (n : ℕ) (t : Table) (l : ℕ) (o : Option ℕ) (h : DeclHead) (b : Option Base) (x : Declr)
+      → m t + 1 ≤ n → UpTo n (enter_based t f l o h b x)
+  based_up n t l o h None x le = if_up n (is_taken t f o (declr_name x)) _ _ tt (auto_up n t o (declr_name x) le)
+  based_up n t l o h (Some b) x le =
+      if_up n (is_unknown (named_by t f b)) _ _ tt
+      (if_up n (is_taken t f o (declr_name x)) _ _ tt
+      (if_up n (is_misplaced h x (written_kind h (named_by t f b) x)) _ _ tt
+      (of_kind_up n t l o h (declr_name x) (written_kind h (named_by t f b) x) le)))
+
+  declared_up : (n : ℕ) (t : Table) (l : ℕ) (o : Option ℕ) (h : DeclHead) (x : Declr)
+      → m t + 1 ≤ n → UpTo n (enter_declared t f l o h x)
+  declared_up n t l o h x le = based_up n t l o h h.base x le
 
   -- expressions and statements --------------------------------------------------------------------
 
@@ -194,6 +227,7 @@ module _ (m : Table → ℕ) (is_measure : IsMeasure m) (f : ℕ) where
           (λ u so. expr_up n u d (omega (arith, so, le)))
       expr_up n t (tree.prefix l p e) le = expr_up n t e (omega (arith, le))
       expr_up n t (tree.new l b es) le = exprs_up n t es (omega (arith, le, bracketed_more es))
+      expr_up n t (tree.new_with l b es) le = exprs_up n t es (omega (arith, le))
       expr_up n t (tree.spork l e) le = expr_up n t e (omega (arith, le))
       expr_up n t (tree.cast l e k) le = expr_up n t e (omega (arith, le))
       expr_up n t (tree.binary l a p b) le =
@@ -209,7 +243,11 @@ module _ (m : Table → ℕ) (is_measure : IsMeasure m) (f : ℕ) where
       expr_up n t (tree.declare l h (declr name bs)) le =
           then_up (m t + brackets_size bs) n (enter_brackets f o t bs) _
           (brackets_up (m t + brackets_size bs) t bs (omega arith))
-          (λ u so. declared_up n u l o h name bs (omega (arith, so, le)))
+          (λ u so. declared_up n u l o h (declr name bs) (omega (arith, so, le)))
+      expr_up n t (tree.declare l h (declr_with name es)) le =
+          then_up (m t + exprs_size es) n (enter_exprs f o t es) _
+          (exprs_up (m t + exprs_size es) t es (omega arith))
+          (λ u so. declared_up n u l o h (declr_with name es) (omega (arith, so, le)))
       expr_up n t (tree.chuck l a p b) le =
           then_up (m t + expr_size a) n (enter_expr f o t a) _
           (expr_up (m t + expr_size a) t a (omega arith))
@@ -242,15 +280,19 @@ module _ (m : Table → ℕ) (is_measure : IsMeasure m) (f : ℕ) where
     declr_up n l h t (declr name bs) le =
         then_up (m t + brackets_size bs) n (enter_brackets f o t bs) _
         (brackets_up (m t + brackets_size bs) t bs (omega arith))
-        (λ u so. declared_up n u l o h name bs (omega (arith, so, le)))
+        (λ u so. declared_up n u l o h (declr name bs) (omega (arith, so, le)))
+    declr_up n l h t (declr_with name es) le =
+        then_up (m t + exprs_size es) n (enter_exprs f o t es) _
+        (exprs_up (m t + exprs_size es) t es (omega arith))
+        (λ u so. declared_up n u l o h (declr_with name es) (omega (arith, so, le)))
 
     declrs_up : (n : ℕ) (l : ℕ) (h : DeclHead) (t : Table) (ds : Declrs) → m t + declrs_size ds ≤ n
         → UpTo n (enter_declrs f l o h t ds)
     declrs_up n l h t no_declrs le = omega (arith, le)
-    declrs_up n l h t (and_declr ds (declr name bs)) le =
+    declrs_up n l h t (and_declr ds x) le =
         then_up (m t + declrs_size ds) n (enter_declrs f l o h t ds) _
         (declrs_up (m t + declrs_size ds) l h t ds (omega arith))
-        (λ u so. declr_up n l h u (declr name bs) (omega (arith, so, le, declrs_comma ds)))
+        (λ u so. declr_up n l h u x (omega (arith, so, le, declrs_comma ds)))
 
     option_up : (n : ℕ) (t : Table) (e : Option Expr) → m t + option_size e ≤ n → UpTo n (enter_option f o t e)
     option_up n t None le = omega (arith, le)
@@ -332,6 +374,13 @@ module _ (m : Table → ℕ) (is_measure : IsMeasure m) (f : ℕ) where
       → m u ≤ m t + brackets_size bs
   brackets_grow o t u bs is =
       at_most (m t + brackets_size bs) _ u is (brackets_up o (m t + brackets_size bs) t bs (omega arith))
+
+  pub behind_grows : (o : Option ℕ) (t u : Table) (x : Declr) → enter_behind f o t x ≡ gives u
+      → m u + 1 ≤ m t + declr_size x
+  behind_grows o t u (declr name bs) is =
+      omega (arith, at_most (m t + brackets_size bs) _ u is (brackets_up o (m t + brackets_size bs) t bs (omega arith)))
+  behind_grows o t u (declr_with name es) is =
+      omega (arith, at_most (m t + exprs_size es) _ u is (exprs_up o (m t + exprs_size es) t es (omega arith)))
 
   pub declr_grows : (o : Option ℕ) (l : ℕ) (h : DeclHead) (t u : Table) (d : Declr)
       → declr_entered f l o h t d ≡ gives u → m u ≤ m t + declr_size d

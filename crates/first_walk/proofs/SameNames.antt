@@ -1,5 +1,6 @@
 -- What answers give, and tables that have the same classes by name: there the types of a text are the same.
 use Rattle.std.proofs.Common.{◌≡◌, ℕ, ◌+◌, Bool, true, false, nat_lt, List, [], ◌∷◌, ◌++◌, length, drop, Option, Some, None, if◌then◌else◌, refl, ap, ◌∙◌, subst}
+use Rattle.ck_values.specs.declared.kind.Kind.TheVariants.{Void}
 use Rattle.ck_syntax.specs.declared.declaration.Base.{Base}
 use Rattle.ck_syntax.specs.declared.declaration.Base.TheVariants as base
 use Rattle.ck_syntax.specs.declared.file.Param.{Param}
@@ -107,10 +108,12 @@ module _ (t u : Table) (same : SameClasses t u) where
   head_same f (tree.fun l s result n ps body) =
       ap (λ ks. head_with s ks (result_kind (named_by u f result.base) result.brackets)) (params_same f ps)
       ∙ ap (λ m. head_with s (param_kinds t f ps) (result_kind m result.brackets)) (named_same f result.base)
+  head_same f (tree.constructor l ps body) = ap (λ ks. head_with false ks (Some Void)) (params_same f ps)
 
   -- the functions of a text
   fun_same : (f : ℕ) (c : Option ℕ) (g : Fun) → fun_entry u f c g ≡ fun_entry t f c g
   fun_same f c (tree.fun l s result n ps body) = ap (λ h. (or_no_head h, owner c s)) (head_same f (tree.fun l s result n ps body))
+  fun_same f c (tree.constructor l ps body) = ap (λ h. (or_no_head h, c)) (head_same f (tree.constructor l ps body))
 
   members_same : (f c : ℕ) (ms : Members) → member_entries u f c ms ≡ member_entries t f c ms
   members_same f c no_members = refl

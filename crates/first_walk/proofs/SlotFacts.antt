@@ -47,6 +47,7 @@ module _ (t : Table) (owners : List (Option ℕ)) (is : IsTable t owners) where
       own_new (n, own.Fun f by.Static) right = tt
       own_new (n, own.Field i k) right = tt
       own_new (n, own.Static v) right = tt
+      own_new (n, own.Auto) right = tt
 
   -- what the nearest text above has under a name stands in the name's slot, with its types
   abbrev pub AreSlotted : List ℕ → Type 0

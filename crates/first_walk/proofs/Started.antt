@@ -27,6 +27,7 @@ pub record IsBlank (k : Class) : Type 0 where
   pub fields : k.fields ≡ []
   pub slots : k.slots ≡ 0
   pub body : k.body ≡ None
+  pub constructor_none : k.constructor ≡ None
 
 -- t is the table before file f, which has this text
 pub record Started (t : Table) (f : ℕ) (owners : List (Option ℕ)) (raw : tree.File) (b : Table) : Type 1 where
@@ -104,6 +105,7 @@ module _ (t : Table) (f : ℕ) (owners : List (Option ℕ)) (before : List (Opti
     fields = ap (λ (k : Class). k.fields) (core_b d) ∙ e.fields;
     slots = ap (λ (k : Class). k.slots) (core_b d) ∙ e.slots;
     body = ap (λ (k : Class). k.body) (core_b d) ∙ e.body;
+    constructor_none = ap (λ (k : Class). k.constructor) (core_b d) ∙ e.constructor_none;
   }
 
   old_w : (c : ℕ) → c < many t → slice_get w.parents c ≡ slice_get t.parents c

@@ -1,5 +1,7 @@
 -- What the table has after each file: the functions of the text in order, and what is right of each class.
 use Rattle.std.specs.Prelude.{◌≡◌, ℕ, ◌<◌, ◌≤◌, Bool, true, false, List, [], ◌∷◌, ◌++◌, length, map, Option, Some, None, slice_get}
+use Rattle.ck_values.specs.declared.kind.Kind.{Kind}
+use Rattle.ck_values.specs.declared.kind.Kind.TheVariants.{Void}
 use Rattle.ck_syntax.specs.Tree as tree
 use Rattle.ck_syntax.specs.Tree.{Name, Members, no_members, and_member, fun_member, stmt_member, no_items, and_item, class_item, fun_item, stmt_item}
 use Rattle.type_rules.specs.Fitting.{is_below}
@@ -16,7 +18,7 @@ use Rattle.type_table.specs.declared.class.Class.{Class}
 use Rattle.type_table.specs.declared.class.Head.{Head}
 use Rattle.type_table.specs.declared.class.FileNames.{FileNames as File}
 use Rattle.type_table.specs.Table.{Table, class_of, fun_of, or_no_head, plain_head, line, parent, ancestors, overridden}
-use Rattle.type_table.proofs.Ranges.{Each, Within, ValueIn, HeadIn, many}
+use Rattle.type_table.proofs.Ranges.{Each, Within, ValueIn, ResultIn, HeadIn, many}
 
 -- the functions of a text -----------------------------------------------------------------------
 
@@ -31,6 +33,7 @@ Entry = Head × Option ℕ
 
 abbrev pub fun_entry : Table → (file : ℕ) → (class : Option ℕ) → tree.Fun → Entry
 fun_entry t file class (tree.fun l is_static result n ps body) = (or_no_head (head_of t file (tree.fun l is_static result n ps body)), owner class is_static)
+fun_entry t file class (tree.constructor l ps body) = (or_no_head (head_of t file (tree.constructor l ps body)), class)
 
 -- the functions of a class, in text order
 abbrev pub member_entries : Table → (file class : ℕ) → Members → List Entry
@@ -85,7 +88,8 @@ Owned t owners c n f by.Override = (slice_get owners f ≡ Some (Some c)) × Ove
 -- a member is right
 abbrev pub IsOwn : Table → (owners : List (Option ℕ)) → (class : ℕ) → Name × Own → Type 0
 IsOwn t owners c (n, own.Field i k) = slice_get (class_of t c).fields i ≡ Some k
-IsOwn t owners c (n, own.Static v) = slice_get t.statics v.index ≡ Some v.kind
+IsOwn t owners c (n, own.Static v) = (slice_get t.statics v.index ≡ Some v.kind) × ValueIn (many t) v.kind
+IsOwn t owners c (n, own.Auto) = Unit {0}
 IsOwn t owners c (n, own.Fun f d) = Dispatched (fun_of t f) d × Owned t owners c n f d
 
 -- the new slots of a class, in the order of its members
@@ -103,6 +107,11 @@ abbrev pub IsBodyOf : Table → (owners : List (Option ℕ)) → (class : ℕ) �
 IsBodyOf t owners c None = Unit {0}
 IsBodyOf t owners c (Some f) = (slice_get owners f ≡ Some (Some c)) × (slice_get t.funs f ≡ Some (plain_head false))
 
+-- and so does its constructor, with its arguments behind
+abbrev pub IsConstructorOf : (owners : List (Option ℕ)) → (class : ℕ) → Option ℕ → Type 0
+IsConstructorOf owners c None = Unit {0}
+IsConstructorOf owners c (Some f) = slice_get owners f ≡ Some (Some c)
+
 pub record IsClassOf (t : Table) (owners : List (Option ℕ)) (c : ℕ) : Type 0 where
   pub members : Each (IsOwn t owners c) (class_of t c).members
   pub found : Each (λ (m : Name × Own). lookup m.0 (class_of t c).members ≡ Some m.1) (class_of t c).members
@@ -110,13 +119,14 @@ pub record IsClassOf (t : Table) (owners : List (Option ℕ)) (c : ℕ) : Type 0
   pub slots : new_slots (class_of t c).members ≡ numbers (class_of t c).slots
   pub heads : (n : Name) (h : Option Head) → lookup n (class_of t c).heads ≡ Some h → IsEntered t c n h
   pub body : IsBodyOf t owners c (class_of t c).body
+  pub constructor_is : IsConstructorOf owners c (class_of t c).constructor
 
 -- tables ----------------------------------------------------------------------------------------
 
 pub record IsFileOf (t : Table) (owners : List (Option ℕ)) (file : File) : Type 0 where
   pub classes : Each (λ (e : Name × ℕ). e.1 < many t) file.classes
   pub funs : Each (λ (e : Name × ℕ). slice_get owners e.1 ≡ Some None) file.funs
-  pub variables : Each (λ e. slice_get t.statics e.1.index ≡ Some e.1.kind) file.variables
+  pub variables : Each (λ (e : Name × ℕ). e.1 < length t.statics) file.variables
 
 pub record IsTable (t : Table) (owners : List (Option ℕ)) : Type 0 where
   pub count : length owners ≡ length t.funs
@@ -128,7 +138,8 @@ pub record IsTable (t : Table) (owners : List (Option ℕ)) : Type 0 where
   pub lines : (c : ℕ) → c < many t → is_below t.parents c 0 ≡ true
   pub publics : Each (λ (e : Name × ℕ). e.1 < many t) t.publics
   pub files : Each (IsFileOf t owners) t.files
-  pub statics : Each (ValueIn (many t)) t.statics
+  -- a variable with `auto` is void until it is settled
+  pub statics : Each (ResultIn (many t)) t.statics
   pub heads : Each (HeadIn (many t)) t.funs
   pub classes : (c : ℕ) → c < many t → IsClassOf t owners c
 
@@ -140,13 +151,18 @@ pub record SameClass (a b : Class) : Type 0 where
   pub fields : b.fields ≡ a.fields
   pub slots : b.slots ≡ a.slots
   pub body : b.body ≡ a.body
+  pub constructor_same : b.constructor ≡ a.constructor
 
--- more files were entered
+-- what has a kind keeps it; what is void may get one
+abbrev pub KindsStay : (before behind : List Kind) → Type 0
+KindsStay before behind = (i : ℕ) (k : Kind) → slice_get before i ≡ Some k → (k ≡ Void → ⊥) → slice_get behind i ≡ Some k
+
+-- more files were entered, or variables with `auto` got their kinds
 pub record IsLater (t u : Table) : Type 0 where
   pub more : many t ≤ many u
   pub parents : (c : ℕ) → c < many t → slice_get u.parents c ≡ slice_get t.parents c
   pub funs : Within t.funs u.funs
-  pub statics : Within t.statics u.statics
+  pub statics : KindsStay t.statics u.statics
   pub classes : (c : ℕ) → c < many t → SameClass (class_of t c) (class_of u c)
 
 -- what is named by a member -----------------------------------------------------------------------
@@ -157,6 +173,7 @@ IsInSlot t c slot f = (g : ℕ) × (slice_get (all_slots t (line t c)) slot ≡ 
 
 abbrev pub IsNamed : Table → (owners : List (Option ℕ)) → (class : ℕ) → Member → Type 0
 IsNamed t owners c (member.Field i k) = slice_get (all_fields t (line t c)) i ≡ Some k
-IsNamed t owners c (member.Static i k) = slice_get t.statics i ≡ Some k
+IsNamed t owners c (member.Static i k) = (slice_get t.statics i ≡ Some k) × ValueIn (many t) k
+IsNamed t owners c member.Auto = Unit {0}
 IsNamed t owners c (member.Fun f None) = slice_get owners f ≡ Some None
 IsNamed t owners c (member.Fun f (Some slot)) = IsInSlot t c slot f × ((a : ℕ) × (slice_get owners f ≡ Some (Some a)))

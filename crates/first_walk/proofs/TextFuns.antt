@@ -1,5 +1,5 @@
 -- What holds of each function, each class and each class with a parent of a text.
-use Rattle.std.proofs.Common.{ℕ, Option, Some, None, sym, subst}
+use Rattle.std.proofs.Common.{◌≡◌, ℕ, Option, Some, None, sym, subst, ◌∙◌}
 use Rattle.ck_syntax.specs.Tree as tree
 use Rattle.ck_syntax.specs.Tree.{Name, Fun, Members, no_members, and_member, fun_member, stmt_member, Item, no_items, and_item, class_item, fun_item, stmt_item}
 use Rattle.first_walk.specs.FirstWalk.{own_class, head_of}
@@ -7,9 +7,11 @@ use Rattle.type_table.specs.declared.class.Head.{Head}
 use Rattle.type_table.specs.Table.{Table}
 use Rattle.first_walk.proofs.SameNames.{SameClasses, own_same, head_same}
 
--- Q says something of the class that has a function, its name, and its types
+-- Q says something of the class that has a function, its name, and its types; a constructor has no name,
+-- but types
 abbrev pub FunHolds : (Q : Option ℕ → Name → Option Head → Type 0) → Table → (file : ℕ) → (class : Option ℕ) → Fun → Type 0
 FunHolds Q t f c (tree.fun l s result n ps body) = Q c n (head_of t f (tree.fun l s result n ps body))
+FunHolds Q t f c (tree.constructor l ps body) = (h : Head) × (head_of t f (tree.constructor l ps body) ≡ Some h)
 
 abbrev pub MembersHold : (Q : Option ℕ → Name → Option Head → Type 0) → Table → (file class : ℕ) → Members → Type 0
 MembersHold Q t f c no_members = Unit {0}
@@ -39,6 +41,7 @@ ClassesHold C t f (and_item xs x) = ClassesHold C t f xs × ClassHolds C t f x
 module _ (Q R : Option ℕ → Name → Option Head → Type 0) (t : Table) (f : ℕ) (goes : (c : Option ℕ) (n : Name) (h : Option Head) → Q c n h → R c n h) where
   pub fun_goes : (c : Option ℕ) (g : Fun) → FunHolds Q t f c g → FunHolds R t f c g
   fun_goes c (tree.fun l s result n ps body) so = goes c n (head_of t f (tree.fun l s result n ps body)) so
+  fun_goes c (tree.constructor l ps body) so = so
 
   pub members_go : (c : ℕ) (ms : Members) → MembersHold Q t f c ms → MembersHold R t f c ms
   members_go c no_members so = tt
@@ -60,6 +63,7 @@ module _ (t u : Table) (f : ℕ) (same : SameClasses t u) where
   module _ (Q : Option ℕ → Name → Option Head → Type 0) where
     fun_keeps : (c : Option ℕ) (g : Fun) → FunHolds Q t f c g → FunHolds Q u f c g
     fun_keeps c (tree.fun l s result n ps body) so = subst (Q c n) (sym (head_same t u same f (tree.fun l s result n ps body))) so
+    fun_keeps c (tree.constructor l ps body) so = (so.0, head_same t u same f (tree.constructor l ps body) ∙ so.1)
 
     members_keep : (c : ℕ) (ms : Members) → MembersHold Q t f c ms → MembersHold Q u f c ms
     members_keep c no_members so = tt

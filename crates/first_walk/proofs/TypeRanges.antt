@@ -1,5 +1,5 @@
 -- The types of a text name classes that the table has.
-use Rattle.std.proofs.Common.{◌≡◌, ℕ, zero, suc, ◌+◌, ◌<◌, ◌≤◌, Bool, true, false, nat_lt, List, Option, Some, None, if◌then◌else◌, refl, arith}
+use Rattle.std.proofs.Common.{◌≡◌, ℕ, zero, suc, ◌+◌, ◌<◌, ◌≤◌, Bool, true, false, ◌&&◌, nat_lt, List, Option, Some, None, if◌then◌else◌, refl, arith}
 use Rattle.ck_values.specs.declared.kind.Elem.{Elem}
 use Rattle.ck_values.specs.declared.kind.Elem.TheVariants as elem
 use Rattle.ck_values.specs.declared.kind.Kind.{Kind}
@@ -9,7 +9,8 @@ use Rattle.ck_syntax.specs.declared.declaration.Base.TheVariants as base
 use Rattle.ck_syntax.specs.declared.declaration.DeclHead.{DeclHead}
 use Rattle.ck_syntax.specs.declared.file.Param.{Param}
 use Rattle.ck_syntax.specs.Tree as tree
-use Rattle.ck_syntax.specs.Tree.{Name, Brackets, Params, no_params, and_param}
+use Rattle.ck_syntax.specs.Tree.{Name, Brackets, no_brackets, Declr, declr, declr_with, Params, no_params, and_param}
+use Rattle.type_rules.specs.Fitting.{is_reference}
 use Rattle.type_table.specs.declared.built_ins.BuiltInName.{BuiltInName}
 use Rattle.type_table.specs.declared.built_ins.BuiltInName.TheVariants.{Elem as one, Module}
 use Rattle.type_table.specs.declared.types.Named.{Named}
@@ -17,7 +18,7 @@ use Rattle.type_table.specs.declared.types.Named.TheVariants as named
 use Rattle.first_walk.specs.FirstWalk.{and_kind, param_kind, param_kinds, head_with, head_of}
 use Rattle.type_table.specs.Names.{lookup, or_else, as_class, built_in, built_in_names}
 use Rattle.type_table.specs.Table.{Table, file_of, class_of, class_named, seen_from}
-use Rattle.type_table.specs.Types.{named_by, class_type, built_in_type, kind_of, is_plain, value_kind, result_kind, declared_kind, has_form, count}
+use Rattle.type_table.specs.Types.{named_by, class_type, built_in_type, kind_of, is_plain, value_kind, result_kind, declared_kind, made_kind, written_kind, has_form, can_be_made, count}
 use Rattle.type_table.proofs.Ranges.{Each, ElemIn, ValueIn, ResultIn, HeadIn}
 use Rattle.type_table.proofs.BuiltIns.{built_in_holds}
 use Rattle.type_table.proofs.ListFacts.{Holds, holds_map, holds_else, each_push, found_holds}
@@ -69,7 +70,7 @@ value_in : (m : ℕ) (n : Named) (brackets : ℕ) → NamedIn m n → Holds (Val
 value_in m (named.Elem e) brackets so = kind_in m e brackets so
 value_in m _ brackets so = tt
 
-result_of_value : (m : ℕ) (k : Kind) → ValueIn m k → ResultIn m k
+pub result_of_value : (m : ℕ) (k : Kind) → ValueIn m k → ResultIn m k
 result_of_value m kind.Void so = tt
 result_of_value m kind.Null so = so
 result_of_value m (kind.One e) so = so
@@ -90,6 +91,20 @@ declared_in m h (named.Elem e) bs so = go (has_form h e bs)
     go true = kind_in m e (count bs) so
     go false = tt
 declared_in m h _ bs so = tt
+
+made_in : (m : ℕ) (n : Named) → NamedIn m n → Holds (ValueIn m) (made_kind n)
+made_in m (named.Elem e) so = go (is_reference e && can_be_made e no_brackets)
+  where
+    go : (b : Bool) → Holds (ValueIn m) (if b then Some (kind.One e) else None)
+    go true = so
+    go false = tt
+made_in m named.Unknown so = tt
+made_in m named.NoType so = tt
+made_in m named.Void so = tt
+
+pub written_in : (m : ℕ) (h : DeclHead) (n : Named) (x : Declr) → NamedIn m n → Holds (ValueIn m) (written_kind h n x)
+written_in m h n (declr name bs) so = declared_in m h n bs so
+written_in m h n (declr_with name es) so = made_in m n so
 
 and_kind_in : (m : ℕ) (ks : Option (List Kind)) (k : Option Kind) → Holds (Each (ValueIn m)) ks → Holds (ValueIn m) k → Holds (Each (ValueIn m)) (and_kind ks k)
 and_kind_in m (Some ks) (Some k) all it = each_push (ValueIn m) ks k all it
@@ -142,3 +157,9 @@ module _ (t : Table) (f m : ℕ) (two : 2 ≤ m) (classes : Each (λ (e : Name �
   pub head_in : (l : ℕ) (s : Bool) (result : _) (n : Name) (ps : Params) (body : _) → Holds (λ h. HeadIn m h × (h.is_static ≡ s)) (head_of t f (tree.fun l s result n ps body))
   head_in l s result n ps body =
       head_with_in m s (param_kinds t f ps) (result_kind (named_by t f result.base) result.brackets) (params_in ps) (result_in m (named_by t f result.base) result.brackets (named_in result.base))
+
+  -- and of a constructor
+  pub constructor_in : (l : ℕ) (ps : Params) (body : _) → Holds (HeadIn m) (head_of t f (tree.constructor l ps body))
+  constructor_in l ps body =
+      holds_map (λ h. HeadIn m h × (h.is_static ≡ false)) (HeadIn m) (λ h is. is.0) (head_with false (param_kinds t f ps) (Some kind.Void))
+      (head_with_in m false (param_kinds t f ps) (Some kind.Void) (params_in ps) tt)

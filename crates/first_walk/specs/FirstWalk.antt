@@ -4,10 +4,11 @@ use Rattle.std.specs.Prelude.{ℕ, ◌+◌, Bool, true, false, not, ◌&&◌, �
 use Rattle.ck_values.specs.declared.kind.Kind.{Kind}
 use Rattle.ck_values.specs.declared.kind.Kind.TheVariants.{Void}
 use Rattle.ck_values.specs.declared.kind.Kind.TheVariants as kind
+use Rattle.ck_syntax.specs.declared.declaration.Base.{Base}
 use Rattle.ck_syntax.specs.declared.declaration.DeclHead.{DeclHead}
 use Rattle.ck_syntax.specs.declared.file.Param.{Param}
 use Rattle.ck_syntax.specs.Tree as tree
-use Rattle.ck_syntax.specs.Tree.{Name, Expr, Exprs, no_exprs, and_expr, Brackets, no_brackets, and_empty, and_size, Declrs, no_declrs, and_declr, declr, Stmt, Params, no_params, and_param, Fun, fun, Member, fun_member, stmt_member, Members, no_members, and_member, class, Item, class_item, fun_item, stmt_item, no_items, and_item}
+use Rattle.ck_syntax.specs.Tree.{Name, Expr, Exprs, no_exprs, and_expr, Brackets, no_brackets, and_empty, and_size, Declrs, no_declrs, and_declr, Declr, declr, declr_with, declr_name, Stmt, Params, no_params, and_param, Fun, fun, constructor, Member, fun_member, stmt_member, Members, no_members, and_member, class, Item, class_item, fun_item, stmt_item, no_items, and_item}
 use Rattle.type_rules.specs.Fitting.{same_elem, is_below}
 use Rattle.type_table.specs.Answer.{Answer, gives, and_then, wrong}
 use Rattle.type_table.specs.declared.class.Own.{Own}
@@ -22,7 +23,7 @@ use Rattle.type_table.specs.declared.class.Head.{Head}
 use Rattle.type_table.specs.declared.class.FileNames.{FileNames as File}
 use Rattle.type_table.specs.Table.{Table, no_file, plain_head, named_class, file_of, class_of, and_own, parent, ancestors, overridden, class_named}
 use Rattle.type_table.specs.NameClash.{is_event_call, is_member_taken}
-use Rattle.type_table.specs.Types.{named_by, is_unknown, value_kind, result_kind, declared_kind, may_be_static}
+use Rattle.type_table.specs.Types.{named_by, is_unknown, value_kind, result_kind, written_kind, may_be_static}
 
 -- changes of one file or class of the table
 abbrev pub with_file : Table → ℕ → File → Table
@@ -141,6 +142,7 @@ head_with s _ _ = None
 abbrev pub head_of : Table → (file : ℕ) → Fun → Option Head
 head_of t f (fun l s result n ps body) =
     head_with s (param_kinds t f ps) (result_kind (named_by t f result.base) result.brackets)
+head_of t f (constructor l ps body) = head_with false (param_kinds t f ps) (Some Void)
 
 abbrev pub names_unknown : Table → (file : ℕ) → Params → Bool
 names_unknown t f no_params = false
@@ -150,6 +152,7 @@ names_unknown t f (and_param ps p) = names_unknown t f ps || is_unknown (named_b
 abbrev pub has_unknown : Table → (file : ℕ) → Fun → Bool
 has_unknown t f (fun l s result n ps body) =
     is_unknown (named_by t f result.base) || names_unknown t f ps
+has_unknown t f (constructor l ps body) = names_unknown t f ps
 
 -- the functions of each class, so that an override can be compared with what it overrides wherever
 -- that stands
@@ -161,6 +164,7 @@ with_head f c t (fun_member (fun l s result n ps body)) =
       heads = and_first n (head_of t f (fun l s result n ps body))
           (class_of t c).heads;
     })
+with_head f c t (fun_member (constructor l ps body)) = t
 with_head f c t (stmt_member s) = t
 
 abbrev pub with_heads_of : (file class : ℕ) → Table → Members → Table
@@ -244,11 +248,33 @@ enter_method_head t f l c n (Some h) =
     if is_event_call t c n then wrong f l BadClass
     else enter_beside t f l c n h (overridden t (ancestors t c) n)
 
+-- a class gets its constructor, which is no member by name
+abbrev pub with_constructor : Table → (class : ℕ) → Head → Table
+with_constructor t c h =
+    record t {
+      funs = t.funs ++ h ∷ [];
+      classes =
+          slice_set t.classes c
+          (record (class_of t c) { constructor = Some (length t.funs) });
+    }
+
+abbrev pub enter_constructor_head : Table → (file at class : ℕ) → Option Head → Answer Table
+enter_constructor_head t f l c None = wrong f l Mismatch
+enter_constructor_head t f l c (Some h) = gives (with_constructor t c h)
+
+abbrev pub enter_constructor : Table → (file at class : ℕ) → Option Head → Answer Table
+enter_constructor t f l c h =
+    if is_some (class_of t c).constructor then wrong f l Duplicate
+    else enter_constructor_head t f l c h
+
 abbrev pub enter_method : Table → (file class : ℕ) → Fun → Answer Table
 enter_method t f c (fun l s result n ps body) =
     if has_unknown t f (fun l s result n ps body) then wrong f l UnknownName
     else if is_member_taken t c n true then wrong f l Duplicate
     else enter_method_head t f l c n (head_of t f (fun l s result n ps body))
+enter_method t f c (constructor l ps body) =
+    if has_unknown t f (constructor l ps body) then wrong f l UnknownName
+    else enter_constructor t f l c (head_of t f (constructor l ps body))
 
 abbrev pub with_fun : Table → (file : ℕ) → Name → Head → Table
 with_fun t f n h =
@@ -265,11 +291,19 @@ enter_fun_head t f l n None = wrong f l Mismatch
 enter_fun_head t f l n (Some h) =
     if h.is_static then wrong f l BadPlace else gives (with_fun t f n h)
 
+-- a constructor stands in a class
+abbrev pub refuse_constructor : (file at : ℕ) → Option Head → Answer Table
+refuse_constructor f l None = wrong f l Mismatch
+refuse_constructor f l (Some h) = wrong f l BadPlace
+
 abbrev pub enter_fun : Table → (file : ℕ) → Fun → Answer Table
 enter_fun t f (fun l s result n ps body) =
     if has_unknown t f (fun l s result n ps body) then wrong f l UnknownName
     else if is_name_taken t f n then wrong f l Duplicate
     else enter_fun_head t f l n (head_of t f (fun l s result n ps body))
+enter_fun t f (constructor l ps body) =
+    if has_unknown t f (constructor l ps body) then wrong f l UnknownName
+    else refuse_constructor f l (head_of t f (constructor l ps body))
 
 -- variables and fields -------------------------------------------------------------------------
 
@@ -283,7 +317,7 @@ with_variable t f n k =
       files =
           slice_set t.files f
           (record (file_of t f) {
-            variables = and_first n (next_static t k)
+            variables = and_first n (length t.statics)
                 (file_of t f).variables;
           });
     }
@@ -312,12 +346,35 @@ enter_of_kind t f l (Some c) h n (Some k) =
     if not h.is_static then gives (with_field t c n k) else if may_be_static h k
     then gives (with_static t c n k) else wrong f l BadPlace
 
-abbrev pub enter_declared : Table → (file at : ℕ) → (class : Option ℕ) → DeclHead → Name →
-    Brackets → Answer Table
-enter_declared t f l owner h n bs =
-    if is_unknown (named_by t f h.base) then wrong f l UnknownName
-    else if is_taken t f owner n then wrong f l Duplicate
-    else enter_of_kind t f l owner h n (declared_kind h (named_by t f h.base) bs)
+-- what makes an object with arguments has no `@`
+abbrev pub is_misplaced : DeclHead → Declr → Option Kind → Bool
+is_misplaced h (declr n bs) k = false
+is_misplaced h (declr_with n es) k = h.is_reference && is_some k
+
+abbrev pub enter_written : Table → (file at : ℕ) → (class : Option ℕ) → DeclHead → Declr →
+    Option Kind → Answer Table
+enter_written t f l owner h x k =
+    if is_misplaced h x k then wrong f l BadPlace
+    else enter_of_kind t f l owner h (declr_name x) k
+
+-- a variable with `auto` has no type yet; that a class can't have one is found in the second walk
+abbrev pub with_auto : Table → (file : ℕ) → (class : Option ℕ) → Name → Table
+with_auto t f None n = with_variable t f n Void
+with_auto t f (Some c) n = with_member t c n own.Auto
+
+abbrev pub enter_based : Table → (file at : ℕ) → (class : Option ℕ) → DeclHead → Option Base →
+    Declr → Answer Table
+enter_based t f l owner h None x =
+    if is_taken t f owner (declr_name x) then wrong f l Duplicate
+    else gives (with_auto t f owner (declr_name x))
+enter_based t f l owner h (Some base) x =
+    if is_unknown (named_by t f base) then wrong f l UnknownName
+    else if is_taken t f owner (declr_name x) then wrong f l Duplicate
+    else enter_written t f l owner h x (written_kind h (named_by t f base) x)
+
+abbrev pub enter_declared : Table → (file at : ℕ) → (class : Option ℕ) → DeclHead → Declr →
+    Answer Table
+enter_declared t f l owner h x = enter_based t f l owner h h.base x
 
 -- all declarations of an expression in their order: operands first, from left to right
 abbrev mutual
@@ -331,19 +388,25 @@ abbrev mutual
   enter_expr f o t (tree.dur l e d) = and_then (enter_expr f o t e) (λ u. enter_expr f o u d)
   enter_expr f o t (tree.prefix l p e) = enter_expr f o t e
   enter_expr f o t (tree.new l b es) = enter_exprs f o t es
+  enter_expr f o t (tree.new_with l b es) = enter_exprs f o t es
   enter_expr f o t (tree.spork l e) = enter_expr f o t e
   enter_expr f o t (tree.cast l e k) = enter_expr f o t e
   enter_expr f o t (tree.binary l a p b) = and_then (enter_expr f o t a) (λ u. enter_expr f o u b)
   enter_expr f o t (tree.choice l c a b) =
       and_then (enter_expr f o t c) (λ u. and_then (enter_expr f o u a) (λ v. enter_expr f o v b))
-  enter_expr f o t (tree.declare l h (declr n bs)) =
-      and_then (enter_brackets f o t bs) (λ u. enter_declared u f l o h n bs)
+  enter_expr f o t (tree.declare l h x) =
+      and_then (enter_behind f o t x) (λ u. enter_declared u f l o h x)
   enter_expr f o t (tree.chuck l a p b) = and_then (enter_expr f o t a) (λ u. enter_expr f o u b)
   enter_expr f o t _ = gives t
 
   pub enter_exprs : (file : ℕ) → (class : Option ℕ) → Table → Exprs → Answer Table
   enter_exprs f o t no_exprs = gives t
   enter_exprs f o t (and_expr es e) = and_then (enter_exprs f o t es) (λ u. enter_expr f o u e)
+
+  -- those behind a declared name
+  pub enter_behind : (file : ℕ) → (class : Option ℕ) → Table → Declr → Answer Table
+  enter_behind f o t (declr n bs) = enter_brackets f o t bs
+  enter_behind f o t (declr_with n es) = enter_exprs f o t es
 
   pub enter_brackets : (file : ℕ) → (class : Option ℕ) → Table → Brackets → Answer Table
   enter_brackets f o t no_brackets = gives t
@@ -354,15 +417,15 @@ abbrev mutual
 abbrev pub enter_declrs : (file at : ℕ) → (class : Option ℕ) → DeclHead → Table → Declrs →
     Answer Table
 enter_declrs f l o h t no_declrs = gives t
-enter_declrs f l o h t (and_declr ds (declr n bs)) =
+enter_declrs f l o h t (and_declr ds x) =
     and_then (enter_declrs f l o h t ds)
-    (λ u. and_then (enter_brackets f o u bs) (λ v. enter_declared v f l o h n bs))
+    (λ u. and_then (enter_behind f o u x) (λ v. enter_declared v f l o h x))
 
 abbrev pub enter_option : (file : ℕ) → (class : Option ℕ) → Table → Option Expr → Answer Table
 enter_option f o t None = gives t
 enter_option f o t (Some e) = enter_expr f o t e
 
--- those of a statement that stand in no block; the bodies of `if` and of loops are blocks, and a
+-- those of a statement that stand in no block; the bodies of `if` and of loops are blocks, and each
 -- `for` is one with its head
 abbrev pub enter_stmt : (file : ℕ) → (class : Option ℕ) → Table → Stmt → Answer Table
 enter_stmt f o t (tree.simple l e) = enter_expr f o t e

@@ -1,22 +1,23 @@
 //! Variables and fields: all that stand in no block, in text order.
 ghost use Rattle.std.specs.Prelude.{◌≡◌, ◌<◌, ◌^◌, ◌∷◌, ◌++◌, [], length, Some, None, OnOk, IfErr};
 ghost use Rattle.ck_base.specs.declared.limits.TheConstants.{MAX_FILE_TOKENS};
-ghost use Rattle.ck_syntax.specs.Tree.{no_brackets};
-ghost use Rattle.ck_syntax.specs.View.{brackets_of};
+ghost use Rattle.ck_syntax.specs.View.{view_declr};
+ghost use Rattle.type_table.specs.Types.{written_kind};
 ghost use Rattle.type_table.specs.Answer.{gives, fault, IsFault};
 ghost use Rattle.first_walk.specs.Room.{declared, declared_by};
 ghost use Rattle.type_table.specs.Names.{and_first};
 ghost use Rattle.type_table.specs.Table.{class_of, file_of};
 ghost use Rattle.fixed_point.specs.Wanting.{out_of_memory};
 ghost use Rattle.type_table.specs.declared.fault.TypeFault.TheVariants.{Memory as memory};
-ghost use Rattle.first_walk.specs.FirstWalk.{is_name_taken, is_taken, with_member, with_file, with_class, next_static, with_variable, with_static, with_field, enter_of_kind as kind_entered, enter_declared as declared_entered};
+ghost use Rattle.first_walk.specs.FirstWalk.{is_name_taken, is_taken, with_member, with_file, with_class, next_static, with_variable, with_static, with_field, enter_of_kind as kind_entered, is_misplaced, with_auto, enter_written as written_entered, enter_declared as declared_entered};
 
 use ck_base::Text;
-use ck_syntax::{DeclHead, Declarator};
+use ck_syntax::{DeclHead, Declarator, DeclaratorTail};
 use ck_values::Kind;
 use std::alloc::Global;
 use type_table::{
-    Count, FaultKind, Own, Table, TypeFault, Variable, declared_kind, may_be_static, number, wrong,
+    Count, FaultKind, Named, Own, Table, TypeFault, Variable, declared_kind, made_kind,
+    may_be_static, number, wrong,
 };
 
 /// Whether a class, function or variable of the file has this name already.
@@ -70,21 +71,19 @@ fn add_own_variable(
     table: &mut Table,
     file: u32,
     name: &[u8],
-    variable: Variable,
+    index: u32,
 ) -> Result<(), TypeFault>
     ensures added { OnOk result
         (table.new
         ≡ with_file table.old file
         (record (file_of table.old file)
-        { variables = and_first name.now variable (file_of table.old file).variables })) }
+        { variables = and_first name.now index (file_of table.old file).variables })) }
     ensures memory { IfErr result (λ why. why ≡ memory out_of_memory) }
 {
     if file as usize >= table.files.len() {
         return Ok(());
     }
-    table.files[file as usize]
-        .variables
-        .add(alloc, name, variable)
+    table.files[file as usize].variables.add(alloc, name, index)
 }
 
 /// A file variable more.
@@ -99,9 +98,9 @@ fn add_variable(
     ensures added { OnOk result (table.new ≡ with_variable table.old file name.now kind) }
     ensures memory { IfErr result (λ why. why ≡ memory out_of_memory) }
 {
-    let variable = next_static(table, kind);
+    let index = number(table.statics.len());
     table.statics.push(kind)?;
-    add_own_variable(alloc, table, file, name, variable)
+    add_own_variable(alloc, table, file, name, index)
 }
 
 /// A static member more.
@@ -233,7 +232,75 @@ fn enter_of_kind(
     }
 }
 
+/// Whether what makes an object with arguments has `@`.
+fn is_misplaced(head: &DeclHead, declarator: &Declarator, kind: Option<Kind>) -> bool
+    ensures { result ≡ is_misplaced head.now (view_declr declarator.now) kind }
+{
+    match &declarator.tail {
+        DeclaratorTail::Brackets(_) => false,
+        DeclaratorTail::Arguments(_) => head.is_reference && kind.is_some(),
+    }
+}
+
+/// The type that a declaration gives its name, where it is one.
+fn written_kind(head: &DeclHead, named: Named, declarator: &Declarator) -> Option<Kind>
+    ensures { result ≡ written_kind head.now named (view_declr declarator.now) }
+{
+    match &declarator.tail {
+        DeclaratorTail::Brackets(brackets) => declared_kind(head, named, brackets.items()),
+        DeclaratorTail::Arguments(_) => made_kind(named),
+    }
+}
+
+/// A declaration with `auto`, whose type isn't known yet.
+fn add_auto(
+    alloc: Global,
+    table: &mut Table,
+    file: u32,
+    owner: Option<u32>,
+    name: &[u8],
+) -> Result<(), TypeFault>
+    requires few { length table.old.statics < 2 ^ 32 }
+    ensures added { OnOk result (table.new ≡ with_auto table.old file owner name.now) }
+    ensures memory { IfErr result (λ why. why ≡ memory out_of_memory) }
+{
+    match owner {
+        Some(class) => add_member(alloc, table, class, name, Own::Auto),
+        None => add_variable(alloc, table, file, name, Kind::Void),
+    }
+}
+
+/// A declaration whose type is one, or not. What makes an object with arguments has no `@`.
+#[tactic(auto, using(crate::proofs::ExprWalks::name_is))]
+fn enter_written(
+    alloc: Global,
+    table: &mut Table,
+    file: u32,
+    line: u32,
+    owner: Option<u32>,
+    head: &DeclHead,
+    declarator: &Declarator,
+    kind: Option<Kind>,
+) -> Result<(), TypeFault>
+    requires few { length table.old.statics < 2 ^ 32 }
+    requires own { declared_by owner table.old < MAX_FILE_TOKENS }
+    ensures entered { OnOk result
+        (written_entered table.old file line owner head.now (view_declr declarator.now) kind
+        ≡ gives table.new) }
+    ensures refused { IfErr result
+        (λ why. IsFault why →
+        written_entered table.old file line owner head.now (view_declr declarator.now) kind
+        ≡ fault why) }
+{
+    if is_misplaced(head, declarator, kind) {
+        return Err(wrong(file, line, FaultKind::BadPlace));
+    }
+    let name = declarator.name.bytes();
+    enter_of_kind(alloc, table, file, line, owner, head, name, kind)
+}
+
 /// One declaration.
+#[tactic(auto, using(crate::proofs::ExprWalks::name_is))]
 pub(crate) fn enter_declared(
     alloc: Global,
     table: &mut Table,
@@ -246,21 +313,27 @@ pub(crate) fn enter_declared(
     requires few { length table.old.statics < 2 ^ 32 }
     requires own { declared_by owner table.old < MAX_FILE_TOKENS }
     ensures entered { OnOk result
-        (declared_entered table.old file line owner head.now declarator.now.name
-        (brackets_of no_brackets declarator.now.brackets) ≡ gives table.new) }
+        (declared_entered table.old file line owner head.now (view_declr declarator.now)
+        ≡ gives table.new) }
     ensures refused { IfErr result
         (λ why. IsFault why →
-        declared_entered table.old file line owner head.now declarator.now.name
-        (brackets_of no_brackets declarator.now.brackets) ≡ fault why) }
+        declared_entered table.old file line owner head.now (view_declr declarator.now)
+        ≡ fault why) }
 {
     let name = &declarator.name;
-    let named = table.named(file, &head.base);
+    let Some(base) = &head.base else {
+        if is_taken(table, file, owner, name) {
+            return Err(wrong(file, line, FaultKind::Duplicate));
+        }
+        return add_auto(alloc, table, file, owner, name.bytes());
+    };
+    let named = table.named(file, base);
     if named.is_unknown() {
         return Err(wrong(file, line, FaultKind::UnknownName));
     }
     if is_taken(table, file, owner, name) {
         return Err(wrong(file, line, FaultKind::Duplicate));
     }
-    let kind = declared_kind(head, named, declarator.brackets.items());
-    enter_of_kind(alloc, table, file, line, owner, head, name.bytes(), kind)
+    let kind = written_kind(head, named, declarator);
+    enter_written(alloc, table, file, line, owner, head, declarator, kind)
 }

@@ -1,16 +1,16 @@
 //! The declarations of expressions and statements that stand in no block.
 ghost use Rattle.std.specs.Prelude.{◌≡◌, ◌+◌, ◌<◌, ◌≤◌, ◌^◌, OnOk, IfErr};
 ghost use Rattle.ck_base.specs.declared.limits.TheConstants.{MAX_FILE_TOKENS};
-ghost use Rattle.ck_syntax.specs.Size.{expr_size, exprs_size, brackets_size};
+ghost use Rattle.ck_syntax.specs.Size.{expr_size, exprs_size, brackets_size, declr_size};
 ghost use Rattle.ck_syntax.specs.Tree.{no_brackets, no_exprs};
-ghost use Rattle.ck_syntax.specs.View.{view_expr, exprs_of, with_bracket, brackets_of};
+ghost use Rattle.ck_syntax.specs.View.{view_expr, view_declr, exprs_of, with_bracket, brackets_of};
 ghost use Rattle.type_table.specs.Answer.{gives, fault, and_then, IsFault};
 ghost use Rattle.first_walk.specs.Room.{entries, declared_by};
 ghost use Rattle.first_walk.specs.Steps.{bracket_entered};
-ghost use Rattle.first_walk.specs.FirstWalk.{enter_expr as expr_entered, enter_exprs as exprs_entered, enter_brackets as brackets_entered, enter_declared as declared_entered};
+ghost use Rattle.first_walk.specs.FirstWalk.{enter_expr as expr_entered, enter_exprs as exprs_entered, enter_brackets as brackets_entered, enter_behind as behind_entered, enter_declared as declared_entered};
 
 use crate::declarations::enter_declared;
-use ck_syntax::{Bracket, DeclHead, Declarator, Expr, ExprKind};
+use ck_syntax::{Bracket, DeclHead, Declarator, DeclaratorTail, Expr, ExprKind};
 use std::alloc::Global;
 use type_table::{Table, TypeFault};
 
@@ -58,6 +58,9 @@ pub(crate) fn enter_expr(
         }
         ExprKind::Array(items) => enter_exprs(alloc, table, file, owner, items.items()),
         ExprKind::New { sizes, .. } => enter_exprs(alloc, table, file, owner, sizes.items()),
+        ExprKind::NewWith { arguments, .. } => {
+            enter_exprs(alloc, table, file, owner, arguments.items())
+        }
         ExprKind::Call { callee, arguments } => {
             enter_call(alloc, table, file, owner, arguments.items(), callee)
         }
@@ -121,7 +124,35 @@ fn enter_call(
     enter_exprs(alloc, table, file, owner, arguments)
 }
 
-/// A declaration: those of its brackets, and then its own name.
+/// Those behind a declared name: of its brackets, or of its arguments.
+#[cycle(expressions)]
+pub(crate) fn enter_behind(
+    alloc: Global,
+    table: &mut Table,
+    file: u32,
+    owner: Option<u32>,
+    declarator: &Declarator,
+) -> Result<(), TypeFault>
+    requires room { entries table.old + declr_size (view_declr declarator.now) < 2 ^ 32 }
+    requires own { declared_by owner table.old
+        + declr_size (view_declr declarator.now) ≤ MAX_FILE_TOKENS }
+    ensures entered { OnOk result
+        (behind_entered file owner table.old (view_declr declarator.now) ≡ gives table.new) }
+    ensures refused { IfErr result
+        (λ why. IsFault why →
+        behind_entered file owner table.old (view_declr declarator.now) ≡ fault why) }
+{
+    match &declarator.tail {
+        DeclaratorTail::Brackets(brackets) => {
+            enter_brackets(alloc, table, file, owner, brackets.items())
+        }
+        DeclaratorTail::Arguments(arguments) => {
+            enter_exprs(alloc, table, file, owner, arguments.items())
+        }
+    }
+}
+
+/// A declaration: those behind its name, and then its own name.
 #[cycle(expressions)]
 fn enter_declaration(
     alloc: Global,
@@ -132,24 +163,20 @@ fn enter_declaration(
     head: &DeclHead,
     declarator: &Declarator,
 ) -> Result<(), TypeFault>
-    requires room { entries table.old
-        + brackets_size (brackets_of no_brackets declarator.now.brackets) + 1 < 2 ^ 32 }
+    requires room { entries table.old + declr_size (view_declr declarator.now) < 2 ^ 32 }
     requires own { declared_by owner table.old
-        + brackets_size (brackets_of no_brackets declarator.now.brackets) + 1 ≤ MAX_FILE_TOKENS }
+        + declr_size (view_declr declarator.now) ≤ MAX_FILE_TOKENS }
     ensures entered { OnOk result
-        (and_then
-        (brackets_entered file owner table.old (brackets_of no_brackets declarator.now.brackets))
-        (λ after. declared_entered after file line owner head.now declarator.now.name
-        (brackets_of no_brackets declarator.now.brackets)) ≡ gives table.new) }
+        (and_then (behind_entered file owner table.old (view_declr declarator.now))
+        (λ after. declared_entered after file line owner head.now (view_declr declarator.now))
+        ≡ gives table.new) }
     ensures refused { IfErr result
         (λ why. IsFault why →
-        and_then
-        (brackets_entered file owner table.old
-        (brackets_of no_brackets declarator.now.brackets))
-        (λ after. declared_entered after file line owner head.now declarator.now.name
-        (brackets_of no_brackets declarator.now.brackets)) ≡ fault why) }
+        and_then (behind_entered file owner table.old (view_declr declarator.now))
+        (λ after. declared_entered after file line owner head.now (view_declr declarator.now))
+        ≡ fault why) }
 {
-    enter_brackets(alloc, table, file, owner, declarator.brackets.items())?;
+    enter_behind(alloc, table, file, owner, declarator)?;
     enter_declared(alloc, table, file, line, owner, head, declarator)
 }
 

@@ -9,11 +9,11 @@ ghost use Rattle.type_table.specs.Table.{class_of, file_of, ancestors, overridde
 ghost use Rattle.fixed_point.specs.Wanting.{out_of_memory};
 ghost use Rattle.type_table.specs.declared.fault.TypeFault.TheVariants.{Memory as memory, Typing};
 ghost use Rattle.type_table.specs.declared.fault.FaultKind.TheVariants.{UnknownName};
-ghost use Rattle.first_walk.specs.FirstWalk.{head_of as types_of, has_unknown as names_unknown, same_kind, same_kinds, same_types, may_override, new_dispatch, old_dispatch, slots_with, with_class, with_dispatch, with_method, enter_beside as entered_beside, enter_method_head as method_head_entered, enter_method as method_entered, with_file, with_fun, enter_fun_head as fun_head_entered, enter_fun as fun_entered};
+ghost use Rattle.first_walk.specs.FirstWalk.{head_of as types_of, has_unknown as names_unknown, same_kind, same_kinds, same_types, may_override, new_dispatch, old_dispatch, slots_with, with_class, with_dispatch, with_method, enter_beside as entered_beside, enter_method_head as method_head_entered, with_constructor, enter_constructor as constructor_entered, enter_method as method_entered, with_file, with_fun, enter_fun_head as fun_head_entered, refuse_constructor as constructor_refused, enter_fun as fun_entered};
 
 use crate::declarations::{add_member, is_name_taken};
 use crate::heads::{has_unknown, head_of};
-use ck_syntax::FunDef;
+use ck_syntax::{FunDef, FunHead};
 use ck_values::Kind;
 use std::alloc::Global;
 use type_rules::is_same;
@@ -224,6 +224,50 @@ fn known_head(
     }
 }
 
+/// A class has this constructor of its own.
+fn set_constructor(table: &mut Table, class: u32, fun: u32)
+    ensures { table.new
+        ≡ with_class table.old class
+        (record (class_of table.old class) { constructor = Some fun }) }
+{
+    table.classes.set_constructor(class, fun);
+}
+
+/// The constructor of a class.
+fn add_constructor(table: &mut Table, class: u32, head: Head) -> Result<(), TypeFault>
+    requires few { length table.old.funs < 2 ^ 32 }
+    ensures added { OnOk result (table.new ≡ with_constructor table.old class head) }
+    ensures memory { IfErr result (λ why. why ≡ memory out_of_memory) }
+{
+    let fun = number(table.funs.len());
+    table.funs.push(head)?;
+    set_constructor(table, class, fun);
+    Ok(())
+}
+
+/// The constructor of a class, which has at most one of its own.
+fn enter_constructor(
+    table: &mut Table,
+    file: u32,
+    line: u32,
+    class: u32,
+    head: Option<Head>,
+) -> Result<(), TypeFault>
+    requires few { length table.old.funs < 2 ^ 32 }
+    ensures entered { OnOk result
+        (constructor_entered table.old file line class head ≡ gives table.new) }
+    ensures refused { IfErr result
+        (λ why. IsFault why → constructor_entered table.old file line class head ≡ fault why) }
+{
+    if table.own_constructor(class).is_some() {
+        return Err(wrong(file, line, FaultKind::Duplicate));
+    }
+    match head {
+        Some(head) => add_constructor(table, class, head),
+        None => Err(wrong(file, line, FaultKind::Mismatch)),
+    }
+}
+
 /// A function of a class.
 pub(crate) fn enter_method(
     alloc: Global,
@@ -240,12 +284,14 @@ pub(crate) fn enter_method(
         (λ why. IsFault why →
         method_entered table.old file class (view_fun fun.now) ≡ fault why) }
 {
-    let name = fun.name.bytes();
     let head = known_head(alloc, table, file, fun)?;
-    if table.is_member_taken(class, name, true) {
+    let FunHead::Named { name, .. } = &fun.head else {
+        return enter_constructor(table, file, fun.line, class, head);
+    };
+    if table.is_member_taken(class, name.bytes(), true) {
         return Err(wrong(file, fun.line, FaultKind::Duplicate));
     }
-    enter_method_head(alloc, table, file, fun.line, class, name, head)
+    enter_method_head(alloc, table, file, fun.line, class, name.bytes(), head)
 }
 
 /// The function of a file by its name.
@@ -311,6 +357,17 @@ fn enter_fun_head(
     add_fun(alloc, table, file, name, head)
 }
 
+/// Why a constructor outside a class is refused: it stands in a class, and what is wrong with its
+/// types comes first.
+fn refused_constructor(file: u32, line: u32, head: &Option<Head>) -> TypeFault
+    ensures { constructor_refused file line head.now ≡ fault result }
+{
+    match head {
+        Some(_) => wrong(file, line, FaultKind::BadPlace),
+        None => wrong(file, line, FaultKind::Mismatch),
+    }
+}
+
 /// A function of a file.
 pub(crate) fn enter_fun(
     alloc: Global,
@@ -325,8 +382,11 @@ pub(crate) fn enter_fun(
         (λ why. IsFault why → fun_entered table.old file (view_fun fun.now) ≡ fault why) }
 {
     let head = known_head(alloc, table, file, fun)?;
-    if is_name_taken(table, file, &fun.name) {
+    let FunHead::Named { name, .. } = &fun.head else {
+        return Err(refused_constructor(file, fun.line, &head));
+    };
+    if is_name_taken(table, file, name) {
         return Err(wrong(file, fun.line, FaultKind::Duplicate));
     }
-    enter_fun_head(alloc, table, file, fun.line, fun.name.bytes(), head)
+    enter_fun_head(alloc, table, file, fun.line, name.bytes(), head)
 }

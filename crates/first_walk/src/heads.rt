@@ -9,10 +9,11 @@ ghost use Rattle.fixed_point.specs.Wanting.{out_of_memory};
 ghost use Rattle.type_table.specs.declared.fault.TypeFault.TheVariants.{Memory as memory};
 ghost use Rattle.first_walk.specs.FirstWalk.{param_kind as kind_of_param, param_kinds as kinds_of_params, names_unknown, has_unknown, head_of as types_of, with_class, with_head, with_heads_of, with_item_heads, with_heads};
 ghost use Rattle.first_walk.specs.Room.{HasNumber, AreNumbered};
+ghost use Rattle.first_walk.specs.Steps.{result_of, says_static, has_unknown_result};
 
 use crate::classes::next_class;
 use ck_base::List;
-use ck_syntax::{FunDef, Item, Member, Param};
+use ck_syntax::{FunDef, FunHead, Item, Member, Param};
 use ck_values::Kind;
 use std::alloc::Global;
 use type_table::{Head, Table, TypeFault, result_kind, value_kind};
@@ -50,7 +51,30 @@ fn param_kinds(
     Ok(Some(List::from_vec(kinds)))
 }
 
+/// The type of a function's result, where it is one; a constructor has none.
+fn result_of(table: &Table, file: u32, head: &FunHead) -> Option<Kind>
+    ensures { result ≡ result_of table.now file head.now }
+{
+    match head {
+        FunHead::Named { result, .. } => {
+            result_kind(table.named(file, &result.base), result.brackets)
+        }
+        FunHead::Construct => Some(Kind::Void),
+    }
+}
+
+/// Whether a function is static; a constructor isn't.
+fn is_static(head: &FunHead) -> bool
+    ensures { result ≡ says_static head.now }
+{
+    match head {
+        FunHead::Named { is_static, .. } => *is_static,
+        FunHead::Construct => false,
+    }
+}
+
 /// The types of a function, where each is one.
+#[tactic(auto, using(crate::proofs::MemberWalks::headed_is))]
 pub(crate) fn head_of(
     alloc: Global,
     table: &Table,
@@ -63,14 +87,13 @@ pub(crate) fn head_of(
     let Some(params) = param_kinds(alloc, table, file, fun.params.items())? else {
         return Ok(None);
     };
-    let named = table.named(file, &fun.result.base);
-    let Some(result) = result_kind(named, fun.result.brackets) else {
+    let Some(result) = result_of(table, file, &fun.head) else {
         return Ok(None);
     };
     Ok(Some(Head {
         params,
         result,
-        is_static: fun.is_static,
+        is_static: is_static(&fun.head),
     }))
 }
 
@@ -86,12 +109,22 @@ fn names_unknown(table: &Table, file: u32, params: &[Param]) -> bool
     false
 }
 
+/// Whether a function's result has an unknown name.
+fn has_unknown_result(table: &Table, file: u32, head: &FunHead) -> bool
+    ensures { result ≡ has_unknown_result table.now file head.now }
+{
+    match head {
+        FunHead::Named { result, .. } => table.named(file, &result.base).is_unknown(),
+        FunHead::Construct => false,
+    }
+}
+
 /// Whether a type of the function has an unknown name.
+#[tactic(auto, using(crate::proofs::MemberWalks::unknown_is))]
 pub(crate) fn has_unknown(table: &Table, file: u32, fun: &FunDef) -> bool
     ensures { result ≡ has_unknown table.now file (view_fun fun.now) }
 {
-    table.named(file, &fun.result.base).is_unknown()
-        || names_unknown(table, file, fun.params.items())
+    has_unknown_result(table, file, &fun.head) || names_unknown(table, file, fun.params.items())
 }
 
 /// The types of a class's function by its name.
@@ -126,8 +159,11 @@ fn enter_head(
 {
     match member {
         Member::Fun(fun) => {
+            let FunHead::Named { name, .. } = &fun.head else {
+                return Ok(());
+            };
             let head = head_of(alloc, table, file, fun)?;
-            add_head(alloc, table, class, fun.name.bytes(), head)
+            add_head(alloc, table, class, name.bytes(), head)
         }
         Member::Stmt(_) => Ok(()),
     }

@@ -10,7 +10,7 @@ ghost use Rattle.first_walk.specs.Steps.{declr_entered};
 ghost use Rattle.first_walk.specs.FirstWalk.{enter_declrs as declrs_entered, enter_option as option_entered, enter_stmt as stmt_entered};
 
 use crate::declarations::enter_declared;
-use crate::expressions::{enter_brackets, enter_expr, enter_exprs};
+use crate::expressions::{enter_behind, enter_expr, enter_exprs};
 use ck_syntax::{DeclHead, Declarator, Expr, Stmt, StmtKind};
 use std::alloc::Global;
 use type_table::{Table, TypeFault};
@@ -36,7 +36,7 @@ fn enter_declarator(
         declr_entered file line owner head.now table.old (view_declr declarator.now)
         ≡ fault why) }
 {
-    enter_brackets(alloc, table, file, owner, declarator.brackets.items())?;
+    enter_behind(alloc, table, file, owner, declarator)?;
     enter_declared(alloc, table, file, line, owner, head, declarator)
 }
 
@@ -90,7 +90,7 @@ fn enter_option(
 }
 
 /// Those of a statement that stand in no block. The bodies of `if` and of loops are blocks,
-/// and a `for` is one with its head.
+/// and each `for` is one with its head.
 pub(crate) fn enter_stmt(
     alloc: Global,
     table: &mut Table,
@@ -122,6 +122,7 @@ pub(crate) fn enter_stmt(
         StmtKind::Block(_)
         | StmtKind::Empty
         | StmtKind::For { .. }
+        | StmtKind::ForEach { .. }
         | StmtKind::Break
         | StmtKind::Continue => Ok(()),
     }

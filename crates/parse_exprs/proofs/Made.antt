@@ -15,8 +15,7 @@ use Rattle.parse_exprs.specs.Machine.{a_name, a_base, postfix, unary, operand, c
 use Rattle.parse_exprs.specs.Machine.{joins, asks, chucks, brackets, sizes, more_exprs, joined}
 use Rattle.parse_exprs.specs.Machine.{a_cond, an_expr, some_exprs, a_type, first_postfix}
 use Rattle.parse_exprs.specs.Machine.{first_unary, next_call, next_dur, next_cast, next_join}
-use Rattle.parse_exprs.specs.Machine.{next_ask, next_chuck, after_sign}
-use Rattle.parse_exprs.specs.Operands.{arguments_of}
+use Rattle.parse_exprs.specs.Machine.{next_ask, next_chuck, after_sign, arguments, new_rest}
 use Rattle.parse_exprs.specs.Reads.{Leads, StopsAt, Missing, Deepens, after, next_follow, joins_at}
 use Rattle.parse_exprs.specs.Reads.{is_chuck, atom_of}
 use Rattle.parse_exprs.specs.Tokens.{Then, Opening, atom, named, prefixed, opens_paren, opens_array}
@@ -267,11 +266,11 @@ index_end e y k i = sign e (a_mark m.RightBracket) (calls e (t.index (expr_line 
 -- behind an operator at depth e, one deeper than c
 pub in_call : {a b : List Token} {y : Expr} (c e : ℕ) → next_follow a ≡ f.Call → b ≡ after a
     → e ≡ suc c → e ≤ MAX_NESTING → Leads (λ (k : K2). calls c y k)
-    (λ (k : K2). arguments_of e (λ es. calls e (t.call (expr_line y) y es) k)) a b
+    (λ (k : K2). arguments e (λ es. calls e (t.call (expr_line y) y es) k)) a b
 in_call {y = y} c e h q p i = goes_on f.Call (λ (k : K2). calls c y k)
-    (λ (k : K2). arguments_of e (λ es. calls e (t.call (expr_line y) y es) k)) e
+    (λ (k : K2). arguments e (λ es. calls e (t.call (expr_line y) y es) k)) e
     (λ k. next_call c y k) (λ k. step (k y c)) h q i (λ k x. refl)
-    (λ k. ap (λ z. Some (z, arguments_of z (λ es. calls z (t.call (expr_line y) y es) k)))
+    (λ k. ap (λ z. Some (z, arguments z (λ es. calls z (t.call (expr_line y) y es) k)))
     (sym p)) (λ k. refl)
 
 pub in_index : {a b : List Token} {y : Expr} (c e : ℕ) → next_follow a ≡ f.Index → b ≡ after a
@@ -310,7 +309,7 @@ calls_over (x ∷ ts) c y h = over (λ (k : K2). calls c y k) (λ k. k y c) (x �
 pub made_call : {ts a b r : List Token} {y : Expr} {es : Exprs} (d c e : ℕ)
     → Leads (λ (k : K2). postfix d k) (λ k. calls c y k) ts a → next_follow a ≡ f.Call
     → b ≡ after a → e ≡ suc c → e ≤ MAX_NESTING
-    → Leads (λ (k : Exprs → State). arguments_of e k) (λ k. k es) b r
+    → Leads (λ (k : Exprs → State). arguments e k) (λ k. k es) b r
     → Leads (λ (k : K2). postfix d k) (λ k. calls e (t.call (expr_line y) y es) k) ts r
 made_call {y = y} d c e l h q p i r = onward l
     (onward (in_call c e h q p i) (inside (λ k es. calls e (t.call (expr_line y) y es) k) r))
@@ -486,12 +485,11 @@ in_prefix {x = x} {o = o} d e q h p i = first_step (λ (k : K2). unary d k)
 pub in_new : {x : Token} {ts a : List Token} (d e : ℕ) → ts ≡ x ∷ a
     → opening x.line x.kind ≡ opens_new → e ≡ suc d → e ≤ MAX_NESTING
     → Leads (λ (k : K2). unary d k)
-    (λ (k : K2). a_base e (λ b. sizes e no_exprs (λ es. k (t.new x.line b es) e))) ts a
+    (λ (k : K2). a_base e (λ b. new_rest e x.line b (λ y. k y e))) ts a
 in_new {x = x} d e q h p i = first_step (λ (k : K2). unary d k)
-    (λ (k : K2). a_base e (λ b. sizes e no_exprs (λ es. k (t.new x.line b es) e))) e q i
+    (λ (k : K2). a_base e (λ b. new_rest e x.line b (λ y. k y e))) e q i
     (λ k. ap (λ z. first_unary d x.line z k) h
-    ∙ ap (λ z. Some (z, a_base z (λ b. sizes z no_exprs (λ es. k (t.new x.line b es) z))))
-    (sym p))
+    ∙ ap (λ z. Some (z, a_base z (λ b. new_rest z x.line b (λ y. k y z)))) (sym p))
 
 pub in_spork : {x : Token} {ts a : List Token} (d e : ℕ) → ts ≡ x ∷ a
     → opening x.line x.kind ≡ opens_spork → e ≡ suc d → e ≤ MAX_NESTING

@@ -7,19 +7,20 @@ use Rattle.ck_lexer.specs.declared.token.Token.{Token}
 use Rattle.ck_lexer.specs.declared.token.TokenKind.TheVariants.{Mark, Name}
 use Rattle.parse_exprs.specs.declared.fault.Fault.{Fault}
 use Rattle.parse_exprs.specs.declared.operand.Operand.{Operand}
-use Rattle.parse_exprs.specs.Machine.{State, left, sign, chucks, brackets, sizes, a_cond, a_declr}
-use Rattle.parse_exprs.specs.Machine.{an_expr, some_exprs}
-use Rattle.parse_exprs.specs.Operands.{Behind, all_closed, arguments_of, bracketed, closed}
+use Rattle.parse_exprs.specs.Machine.{State, left, sign, may, chucks, brackets, sizes, a_cond, a_declr}
+use Rattle.parse_exprs.specs.Machine.{an_expr, some_exprs, arguments, declr_rest, new_rest}
+use Rattle.parse_exprs.specs.Operands.{Behind, all_closed, bracketed, closed}
 use Rattle.parse_exprs.specs.Operands.{either_way, named_from, operand_from, operand_next, optional}
 use Rattle.parse_exprs.specs.Reads.{Leads, Reads, StopsAt, Missing, Deepens, NoName}
 use Rattle.parse_exprs.specs.Tokens.{Then, Sign, a_mark, kind_of, has}
 use Rattle.parse_exprs.proofs.Made.{K1, K2, brackets_over, in_bracket, in_size, may_come, may_not}
 use Rattle.parse_exprs.proofs.Made.{sizes_over}
 use Rattle.parse_exprs.proofs.Steps.{deepened, inside, no_name, no_sign, onward, past_name}
-use Rattle.parse_exprs.proofs.Steps.{past_sign, stops_inside, stops_onward}
+use Rattle.parse_exprs.proofs.Steps.{past_sign, stops_inside, stops_onward, token}
 use Rattle.ck_syntax.specs.Tree as t
 use Rattle.ck_syntax.specs.Tree.{Expr, Exprs, Brackets, Declr, declr, expr_line, no_brackets}
 use Rattle.ck_syntax.specs.Tree.{no_exprs, and_expr}
+use Rattle.ck_syntax.specs.declared.declaration.Base.{Base}
 use Rattle.ck_syntax.specs.declared.declaration.DeclHead.{DeclHead}
 use Rattle.ck_syntax.specs.declared.operator.ChuckOp.{ChuckOp}
 
@@ -93,23 +94,24 @@ made_chuck {ts = ts} {r = b} {x = x} {y = y} {z = z} d c e g o n l p r q h = sub
 
 -- ---- declarators
 
-abbrev declared_rest : ℕ → DeclHead → t.Name → Behind → Brackets → State
-declared_rest l head n h bs = h.declaration l head (declr n bs)
+abbrev pub KD : Type 0
+KD = Declr → State
 
-pub brackets_fault : {ts a : List Token} (d l : ℕ) (head : DeclHead) (n : t.Name) (e : Fault)
+abbrev declared_rest : ℕ → DeclHead → Behind → KD
+declared_rest l head h x = h.declaration l head x
+
+pub tail_fault : {ts a : List Token} (d l : ℕ) (head : DeclHead) (n : t.Name) (e : Fault)
     → Leads (λ (h : Behind). operand_from d h) (λ h. named_from d l head n h) ts a
-    → StopsAt (λ (k : Brackets → State). brackets d no_brackets k) a e
-    → StopsAt (λ (h : Behind). operand_from d h) ts e
-brackets_fault d l head n e p r =
-    stopped (λ (k : Brackets → State). brackets d no_brackets k) (declared_rest l head n) e p r
+    → StopsAt (λ (k : KD). declr_rest d n k) a e → StopsAt (λ (h : Behind). operand_from d h) ts e
+tail_fault d l head n e p r =
+    stopped (λ (k : KD). declr_rest d n k) (declared_rest l head) e p r
 
-pub made_declaration : {ts a b : List Token} {bs : Brackets} (d l : ℕ) (head : DeclHead)
+pub made_declaration : {ts a b : List Token} {x : Declr} (d l : ℕ) (head : DeclHead)
     (n : t.Name) → Leads (λ (h : Behind). operand_from d h) (λ h. named_from d l head n h) ts a
-    → Leads (λ (k : Brackets → State). brackets d no_brackets k) (λ k. k bs) a b
-    → Leads (λ (h : Behind). operand_from d h) (λ h. h.declaration l head (declr n bs)) ts b
-made_declaration {bs = bs} d l head n p r = made
-    (λ (k : Brackets → State). brackets d no_brackets k) (λ k. k bs) (declared_rest l head n) p
-    r
+    → Leads (λ (k : KD). declr_rest d n k) (λ k. k x) a b
+    → Leads (λ (h : Behind). operand_from d h) (λ h. h.declaration l head x) ts b
+made_declaration {x = x} d l head n p r =
+    made (λ (k : KD). declr_rest d n k) (λ k. k x) (declared_rest l head) p r
 
 pub value_fault : {ts : List Token} (d : ℕ) (e : Fault)
     → Leads (λ (h : Behind). operand_from d h) (λ h. a_cond d h.value) ts ts
@@ -122,29 +124,23 @@ pub made_value : {ts a : List Token} {y : Expr} (d c : ℕ)
     → Leads (λ (h : Behind). operand_from d h) (λ h. h.value y c) ts a
 made_value {y = y} d c p r = made (λ (k : K2). a_cond d k) (λ k. k y c) (λ h. h.value) p r
 
-abbrev declr_rest : t.Name → (Declr → State) → Brackets → State
-declr_rest n k bs = k (declr n bs)
-
 pub no_declr_name : (ts : List Token) (d : ℕ) (e : Fault) → NoName ts e
-    → StopsAt (λ (k : Declr → State). a_declr d k) ts e
-no_declr_name ts d e h = no_name ts d (λ k n. brackets d no_brackets (declr_rest n k)) e h
+    → StopsAt (λ (k : KD). a_declr d k) ts e
+no_declr_name ts d e h = no_name ts d (λ (k : KD) n. declr_rest d n k) e h
 
 in_declr : {ts a : List Token} {n : t.Name} (d : ℕ) → Then (Name n) ts a → d ≤ MAX_NESTING
-    → Leads (λ (k : Declr → State). a_declr d k) (λ k. brackets d no_brackets (declr_rest n k))
-    ts a
-in_declr d h i = past_name d (λ k n. brackets d no_brackets (declr_rest n k)) h i
+    → Leads (λ (k : KD). a_declr d k) (λ k. declr_rest d n k) ts a
+in_declr d h i = past_name d (λ (k : KD) n. declr_rest d n k) h i
 
 pub declr_fault : {ts a : List Token} {n : t.Name} (d : ℕ) (e : Fault) → Then (Name n) ts a
-    → d ≤ MAX_NESTING → StopsAt (λ (k : Brackets → State). brackets d no_brackets k) a e
-    → StopsAt (λ (k : Declr → State). a_declr d k) ts e
-declr_fault {n = n} d e h i r = stopped (λ (k : Brackets → State). brackets d no_brackets k)
-    (declr_rest n) e (in_declr d h i) r
+    → d ≤ MAX_NESTING → StopsAt (λ (k : KD). declr_rest d n k) a e
+    → StopsAt (λ (k : KD). a_declr d k) ts e
+declr_fault d e h i r = stops_onward e (in_declr d h i) r
 
-pub made_declr : {ts a b : List Token} {n : t.Name} {bs : Brackets} (d : ℕ) → Then (Name n) ts a
-    → d ≤ MAX_NESTING → Leads (λ (k : Brackets → State). brackets d no_brackets k) (λ k. k bs) a
-    b → Leads (λ (k : Declr → State). a_declr d k) (λ k. k (declr n bs)) ts b
-made_declr {n = n} {bs = bs} d h i r = made (λ (k : Brackets → State). brackets d no_brackets k)
-    (λ k. k bs) (declr_rest n) (in_declr d h i) r
+pub made_declr : {ts a b : List Token} {n : t.Name} {x : Declr} (d : ℕ) → Then (Name n) ts a
+    → d ≤ MAX_NESTING → Leads (λ (k : KD). declr_rest d n k) (λ k. k x) a b
+    → Leads (λ (k : KD). a_declr d k) (λ k. k x) ts b
+made_declr d h i r = onward (in_declr d h i) r
 
 -- ---- pairs of brackets
 
@@ -287,11 +283,106 @@ made_some {ts = ts} {y = y} j d h r = made (λ (k : K1). closed d j k) (λ k. k 
     (may_not ts j d (λ (k : KO). k None) (λ k. closed d j (some_of k)) h) r
 
 pub no_arguments : {ts a : List Token} (d : ℕ) → Then (Mark m.RightParen) ts a → d ≤ MAX_NESTING
-    → Leads (λ (k : KS). arguments_of d k) (λ k. k no_exprs) ts a
+    → Leads (λ (k : KS). arguments d k) (λ k. k no_exprs) ts a
 no_arguments d h i = may_come (a_mark m.RightParen) d (λ (k : KS). k no_exprs)
     (λ k. all_closed d (a_mark m.RightParen) k) h i
 
 pub arguments_come : (ts : List Token) (d : ℕ) → has (a_mark m.RightParen) ts ≡ false
-    → Leads (λ (k : KS). arguments_of d k) (λ k. all_closed d (a_mark m.RightParen) k) ts ts
+    → Leads (λ (k : KS). arguments d k) (λ k. all_closed d (a_mark m.RightParen) k) ts ts
 arguments_come ts d h = may_not ts (a_mark m.RightParen) d (λ (k : KS). k no_exprs)
     (λ k. all_closed d (a_mark m.RightParen) k) h
+
+-- ---- arguments in parentheses, or else what may stand in their place
+
+abbrev given_or : ℕ → KS → State → State
+given_or d k r = may (suc d) (a_mark m.LeftParen) (arguments (suc d) k) r
+
+pub given_deep : {K : Type 0} {ts : List Token} (d : ℕ) (A : K → KS) (B : K → State) (e : Fault)
+    → (rest : List Token) × Then (Mark m.LeftParen) ts rest × Deepens d ts (Err e)
+    → StopsAt (λ k. given_or d (A k) (B k)) ts e
+given_deep d A B e (b, q, i) = deepened (λ k. given_or d (A k) (B k))
+    (λ k. arguments (suc d) (A k)) d e q i (λ l a k. refl)
+
+in_given : {K : Type 0} {ts a : List Token} (d c : ℕ) (A : K → KS) (B : K → State)
+    → Then (Mark m.LeftParen) ts a → c ≡ suc d → c ≤ MAX_NESTING
+    → Leads (λ k. given_or d (A k) (B k)) (λ k. arguments c (A k)) ts a
+in_given d c A B q h i = token (λ k. given_or d (A k) (B k)) (λ k. arguments c (A k)) c q i
+    (λ l a k. ap (λ c. Some (c, arguments c (A k))) (sym h))
+
+pub given_fault : {K : Type 0} {ts a : List Token} (d c : ℕ) (A : K → KS) (B : K → State)
+    (e : Fault) → Then (Mark m.LeftParen) ts a → c ≡ suc d → c ≤ MAX_NESTING
+    → StopsAt (λ (k : KS). arguments c k) a e → StopsAt (λ k. given_or d (A k) (B k)) ts e
+given_fault d c A B e q h i r =
+    stopped (λ (k : KS). arguments c k) A e (in_given d c A B q h i) r
+
+pub given_made : {K : Type 0} {ts a b : List Token} {es : Exprs} (d c : ℕ) (A : K → KS)
+    (B : K → State) → Then (Mark m.LeftParen) ts a → c ≡ suc d → c ≤ MAX_NESTING
+    → Leads (λ (k : KS). arguments c k) (λ k. k es) a b
+    → Leads (λ k. given_or d (A k) (B k)) (λ k. A k es) ts b
+given_made {es = es} d c A B q h i r =
+    made (λ (k : KS). arguments c k) (λ k. k es) A (in_given d c A B q h i) r
+
+pub not_given : {K : Type 0} (ts : List Token) (d : ℕ) (A : K → KS) (B : K → State)
+    → has (a_mark m.LeftParen) ts ≡ false → Leads (λ k. given_or d (A k) (B k)) B ts ts
+not_given ts d A B h = may_not ts (a_mark m.LeftParen) (suc d) (λ k. arguments (suc d) (A k)) B h
+
+-- behind the name of a declarator
+
+abbrev pub with_arguments : t.Name → KD → KS
+with_arguments n k es = k (t.declr_with n es)
+
+abbrev pub with_brackets : t.Name → KD → Brackets → State
+with_brackets n k bs = k (declr n bs)
+
+abbrev pub plain_tail : ℕ → t.Name → KD → State
+plain_tail d n k = brackets d no_brackets (with_brackets n k)
+
+pub brackets_fault : (ts : List Token) (d : ℕ) (n : t.Name) (e : Fault)
+    → has (a_mark m.LeftParen) ts ≡ false
+    → StopsAt (λ (k : Brackets → State). brackets d no_brackets k) ts e
+    → StopsAt (λ (k : KD). declr_rest d n k) ts e
+brackets_fault ts d n e h r = stopped
+    (λ (k : Brackets → State). brackets d no_brackets k) (with_brackets n) e
+    (not_given ts d (with_arguments n) (plain_tail d n) h) r
+
+pub brackets_made : {ts a : List Token} {bs : Brackets} (d : ℕ) (n : t.Name)
+    → has (a_mark m.LeftParen) ts ≡ false
+    → Leads (λ (k : Brackets → State). brackets d no_brackets k) (λ k. k bs) ts a
+    → Leads (λ (k : KD). declr_rest d n k) (λ k. k (declr n bs)) ts a
+brackets_made {ts = ts} {bs = bs} d n h r = made
+    (λ (k : Brackets → State). brackets d no_brackets k) (λ k. k bs) (with_brackets n)
+    (not_given ts d (with_arguments n) (plain_tail d n) h) r
+
+-- behind the base of a `new`
+
+abbrev pub object_with : ℕ → Base → K1 → KS
+object_with l b k es = k (t.new_with l b es)
+
+abbrev pub object_of : ℕ → Base → K1 → KS
+object_of l b k es = k (t.new l b es)
+
+abbrev pub sized : ℕ → ℕ → Base → K1 → State
+sized d l b k = sizes d no_exprs (object_of l b k)
+
+pub sizes_fault : (ts : List Token) (d l : ℕ) (b : Base) (e : Fault)
+    → has (a_mark m.LeftParen) ts ≡ false → StopsAt (λ (k : KS). sizes d no_exprs k) ts e
+    → StopsAt (λ (k : K1). new_rest d l b k) ts e
+sizes_fault ts d l b e h r = stopped (λ (k : KS). sizes d no_exprs k) (object_of l b) e
+    (not_given ts d (object_with l b) (sized d l b) h) r
+
+pub sizes_made : {ts a : List Token} {es : Exprs} {z : Expr} (d l : ℕ) (b : Base)
+    → has (a_mark m.LeftParen) ts ≡ false
+    → Leads (λ (k : KS). sizes d no_exprs k) (λ k. k es) ts a → z ≡ t.new l b es
+    → Leads (λ (k : K1). new_rest d l b k) (λ k. k z) ts a
+sizes_made {ts = ts} {a = a} {es = es} d l b h r e = subst
+    (λ z. Leads (λ (k : K1). new_rest d l b k) (λ k. k z) ts a) (sym e)
+    (made (λ (k : KS). sizes d no_exprs k) (λ k. k es) (object_of l b)
+    (not_given ts d (object_with l b) (sized d l b) h) r)
+
+pub object_made : {ts a c : List Token} {es : Exprs} {z : Expr} (d e l : ℕ) (b : Base)
+    → Then (Mark m.LeftParen) ts a → e ≡ suc d → e ≤ MAX_NESTING
+    → Leads (λ (k : KS). arguments e k) (λ k. k es) a c → z ≡ t.new_with l b es
+    → Leads (λ (k : K1). new_rest d l b k) (λ k. k z) ts c
+object_made {ts = ts} {c = c} {es = es} d e l b q h i r g = subst
+    (λ z. Leads (λ (k : K1). new_rest d l b k) (λ k. k z) ts c) (sym g)
+    (given_made d e (object_with l b) (sized d l b) q h i r)

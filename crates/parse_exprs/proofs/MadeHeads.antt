@@ -1,16 +1,18 @@
 -- What the machine makes of types, and of the heads of declarations.
 use Rattle.std.proofs.Common.{◌≡◌, ℕ, suc, ◌≤◌, List, [], ◌∷◌, length, Bool, true, false, cond}
-use Rattle.std.proofs.Common.{None, Some, Err, refl, sym, ◌∙◌, ap, subst}
+use Rattle.std.proofs.Common.{Option, None, Some, Err, refl, sym, ◌∙◌, ap, subst}
 use Rattle.ck_base.specs.declared.limits.TheConstants.{MAX_NESTING}
 use Rattle.ck_lexer.specs.declared.mark.Mark.TheVariants as m
 use Rattle.ck_lexer.specs.declared.token.Token.{Token}
 use Rattle.ck_lexer.specs.declared.token.TokenKind.{TokenKind}
-use Rattle.ck_lexer.specs.declared.token.TokenKind.TheVariants.{Mark, Name}
+use Rattle.ck_lexer.specs.declared.token.TokenKind.TheVariants.{Mark, Name, Word}
+use Rattle.ck_lexer.specs.declared.word.Word.TheVariants as w
 use Rattle.parse_exprs.specs.declared.fault.Fault.{Fault}
 use Rattle.parse_exprs.specs.declared.fault.Fault.TheVariants.{Syntax, TooDeep, Memory}
 use Rattle.parse_exprs.specs.declared.opening.Opening.{Opening as Seen}
 use Rattle.parse_exprs.specs.declared.opening.Opening.TheVariants as seen
-use Rattle.parse_exprs.specs.Machine.{Next, State, a_base, a_cond, a_declared, a_name, a_type}
+use Rattle.parse_exprs.specs.Machine.{Next, State, a_base, a_cond, a_declared, a_head_base, a_name}
+use Rattle.parse_exprs.specs.Machine.{a_type}
 use Rattle.parse_exprs.specs.Machine.{after_sign, calls, cond_rest, declared, declared_or, deep}
 use Rattle.parse_exprs.specs.Machine.{durs, faulty, first_operand, first_postfix, first_unary}
 use Rattle.parse_exprs.specs.Machine.{is_shallow, left, next_declared, or_else, pairs, postfix}
@@ -19,9 +21,9 @@ use Rattle.parse_exprs.specs.Operands.{Behind, declared_from, operand_from}
 use Rattle.parse_exprs.specs.Reads.{Agrees, Deepens, IsBaseAt, Leads, NoBase, NoName, StopsAt}
 use Rattle.parse_exprs.specs.Reads.{after, atom_of, base_of, begins_declared, begins_with_base}
 use Rattle.parse_exprs.specs.Reads.{is_based, is_declared, is_name, is_named, next_base_of}
-use Rattle.parse_exprs.specs.Tokens.{Opening, Then, a_mark, atom, based, has, is_sign, named}
-use Rattle.parse_exprs.specs.Tokens.{opening, opens_array, opens_paren, opens_static}
-use Rattle.parse_exprs.proofs.Made.{K2, absent, first_step}
+use Rattle.parse_exprs.specs.Tokens.{Opening, Then, a_mark, a_word, atom, based, has, is_sign, named}
+use Rattle.parse_exprs.specs.Tokens.{opening, opens_array, opens_auto, opens_paren, opens_static}
+use Rattle.parse_exprs.proofs.Made.{K2, absent, first_step, may_come, may_not}
 use Rattle.parse_exprs.proofs.MadeExpr.{made, stopped}
 use Rattle.parse_exprs.proofs.Steps.{deepened, in_pair, no_base, no_name, one_faulty, onward, over}
 use Rattle.parse_exprs.proofs.Steps.{past_base, past_name, past_sign, stops_onward, token}
@@ -129,27 +131,62 @@ no_plain_name ts d (Memory _) h r = tt
 
 -- ---- a declaration behind `static`
 
-abbrev static_rest : ℕ → ℕ → Behind → Base → State
+abbrev pub KE : Type 0
+KE = Option Base → State
+
+abbrev typed_base : KE → Base → State
+typed_base k b = k (Some b)
+
+pub auto_base : {ts a : List Token} (d : ℕ) → Then (Word w.Auto) ts a → d ≤ MAX_NESTING
+    → Leads (λ (k : KE). a_head_base d k) (λ k. k None) ts a
+auto_base d h i =
+    may_come (a_word w.Auto) d (λ (k : KE). k None) (λ k. a_base d (typed_base k)) h i
+
+no_auto : (ts : List Token) (d : ℕ) → has (a_word w.Auto) ts ≡ false
+    → Leads (λ (k : KE). a_head_base d k) (λ k. a_base d (typed_base k)) ts ts
+no_auto ts d h = may_not ts (a_word w.Auto) d (λ (k : KE). k None) (λ k. a_base d (typed_base k)) h
+
+pub no_head_base : (ts : List Token) (d : ℕ) (e : Fault) → has (a_word w.Auto) ts ≡ false
+    → NoBase ts e → StopsAt (λ (k : KE). a_head_base d k) ts e
+no_head_base ts d e h r =
+    stops_onward e (no_auto ts d h) (no_base ts d (λ (k : KE) b. typed_base k b) e r)
+
+pub made_head_base : {b : Base} {ts a : List Token} (d : ℕ) → has (a_word w.Auto) ts ≡ false
+    → IsBaseAt ts b a → d ≤ MAX_NESTING → Leads (λ (k : KE). a_head_base d k) (λ k. k (Some b)) ts a
+made_head_base {ts = ts} d h r i =
+    onward (no_auto ts d h) (past_base d (λ (k : KE) b. typed_base k b) r i)
+
+abbrev static_rest : ℕ → ℕ → Behind → KE
 static_rest d l h b = declared_from d l true b h
 
 behind_static : {x : Token} {ts a : List Token} (d : ℕ) → ts ≡ x ∷ a
     → opening x.line x.kind ≡ opens_static → d ≤ MAX_NESTING
-    → Leads (λ (h : Behind). operand_from d h) (λ h. a_base d (static_rest d x.line h)) ts a
+    → Leads (λ (h : Behind). operand_from d h) (λ h. a_head_base d (static_rest d x.line h)) ts a
 behind_static {x = x} d q h i = first_step (λ (h : Behind). operand_from d h)
-    (λ h. a_base d (static_rest d x.line h)) d q i
+    (λ h. a_head_base d (static_rest d x.line h)) d q i
     (λ k. ap (λ o. first_operand d x.line o k.declaration k.value) h)
 
 pub no_static_base : {x : Token} {ts a : List Token} (d : ℕ) (e : Fault) → ts ≡ x ∷ a
-    → opening x.line x.kind ≡ opens_static → d ≤ MAX_NESTING → NoBase a e
-    → StopsAt (λ (h : Behind). operand_from d h) ts e
-no_static_base {x = x} {a = a} d e q h i r = stops_onward e (behind_static d q h i)
-    (no_base a d (λ (h : Behind) b. static_rest d x.line h b) e r)
+    → opening x.line x.kind ≡ opens_static → d ≤ MAX_NESTING
+    → StopsAt (λ (k : KE). a_head_base d k) a e → StopsAt (λ (h : Behind). operand_from d h) ts e
+no_static_base {x = x} d e q h i r = stopped (λ (k : KE). a_head_base d k)
+    (λ (h : Behind). static_rest d x.line h) e (behind_static d q h i) r
 
-pub static_base : {x : Token} {b : Base} {ts a r : List Token} (d : ℕ) → ts ≡ x ∷ a
-    → opening x.line x.kind ≡ opens_static → d ≤ MAX_NESTING → IsBaseAt a b r
+pub static_base : {x : Token} {b : Option Base} {ts a r : List Token} (d : ℕ) → ts ≡ x ∷ a
+    → opening x.line x.kind ≡ opens_static → d ≤ MAX_NESTING
+    → Leads (λ (k : KE). a_head_base d k) (λ k. k b) a r
     → Leads (λ (h : Behind). operand_from d h) (λ h. declared_from d x.line true b h) ts r
-static_base {x = x} d q h i r = onward (behind_static d q h i)
-    (past_base d (λ (h : Behind) b. static_rest d x.line h b) r i)
+static_base {x = x} {b = b} d q h i r = made (λ (k : KE). a_head_base d k) (λ k. k b)
+    (λ (h : Behind). static_rest d x.line h) (behind_static d q h i) r
+
+-- ---- a declaration that begins with `auto`
+
+pub behind_auto : {x : Token} {ts a : List Token} (d : ℕ) → ts ≡ x ∷ a
+    → opening x.line x.kind ≡ opens_auto → d ≤ MAX_NESTING
+    → Leads (λ (h : Behind). operand_from d h) (λ h. declared_from d x.line false None h) ts a
+behind_auto {x = x} d q h i = first_step (λ (h : Behind). operand_from d h)
+    (λ h. declared_from d x.line false None h) d q i
+    (λ k. ap (λ o. first_operand d x.line o k.declaration k.value) h)
 
 -- ---- a declaration by its first token, and none
 
@@ -182,6 +219,10 @@ based_seen : (c : Base) (s : Seen) (ts : List Token) → Agrees (based c) s
 based_seen c seen.Base ts g j = cc
 based_seen c _ ts g j = cc
 
+auto_seen : (s : Seen) → Agrees opens_auto s → (s ≡ seen.Auto → ⊥) → ⊥
+auto_seen seen.Auto g i = i refl
+auto_seen _ g i = cc
+
 static_seen : (s : Seen) → Agrees opens_static s → (s ≡ seen.Static → ⊥) → ⊥
 static_seen seen.Static g i = i refl
 static_seen _ g i = cc
@@ -197,23 +238,25 @@ named_on c seen.Name ts g j = j
 named_on c _ ts g j = cc
 
 same_step : (d l n : ℕ) (o : Opening) (s : Seen) (ts : List Token) (h : Behind) → Agrees o s
-    → (s ≡ seen.Static → ⊥) → begins_with_base s ts ≡ false
+    → (s ≡ seen.Static → ⊥) → (s ≡ seen.Auto → ⊥) → begins_with_base s ts ≡ false
     → resume is_shallow n (λ q. left ts q) (first_operand d l o h.declaration h.value)
     ≡ resume is_shallow n (λ q. left ts q) (first_unary d l o (λ e c. cond_rest c e h.value))
-same_step d l n (based c) s ts h g i j = absurd (based_seen c s ts g j)
-same_step d l n opens_static s ts h g i j = absurd (static_seen s g i)
-same_step d l n (named c) s ts h g i j = ap (λ y. cond (is_shallow d) y (deep n))
-    (not_declared_on ts d (a_declared d l false (a_class c) h.declaration) _
+same_step d l n (based c) s ts h g i u j = absurd (based_seen c s ts g j)
+same_step d l n opens_static s ts h g i u j = absurd (static_seen s g i)
+same_step d l n opens_auto s ts h g i u j = absurd (auto_seen s g u)
+same_step d l n (named c) s ts h g i u j = ap (λ y. cond (is_shallow d) y (deep n))
+    (not_declared_on ts d (a_declared d l false (Some (a_class c)) h.declaration) _
     (named_off c s ts g j))
-same_step d l n _ s ts h g i j = refl
+same_step d l n _ s ts h g i u j = refl
 
 pub not_a_declaration : {x : Token} {ts a : List Token} (d : ℕ) (s : Seen) → ts ≡ x ∷ a
-    → Agrees (opening x.line x.kind) s → (s ≡ seen.Static → ⊥) → begins_with_base s a ≡ false
+    → Agrees (opening x.line x.kind) s → (s ≡ seen.Static → ⊥) → (s ≡ seen.Auto → ⊥)
+    → begins_with_base s a ≡ false
     → Leads (λ (h : Behind). operand_from d h) (λ h. a_cond d h.value) ts ts
-not_a_declaration {x = x} {a = a} d s q g i j = subst
+not_a_declaration {x = x} {a = a} d s q g i u j = subst
     (λ y. Leads (λ (h : Behind). operand_from d h) (λ h. a_cond d h.value) y y) (sym q)
     (record {
-      by = λ h. same_step d x.line (suc (length a)) (opening x.line x.kind) s a h g i j;
+      by = λ h. same_step d x.line (suc (length a)) (opening x.line x.kind) s a h g i u j;
     })
 
 none_some : {b : Base} → None ≡ Some b → ⊥
@@ -229,21 +272,21 @@ named_rest d l c h = calls d (t.name l c) (λ e u. durs u e (λ g v. cond_rest v
 by_opening : {x : Token} {b : Base} {ts a : List Token} (d : ℕ) (o : Opening) (s : Seen)
     → ts ≡ x ∷ a → opening x.line x.kind ≡ o → Agrees o s → begins_with_base s a ≡ true
     → base_of o ≡ Some b → d ≤ MAX_NESTING
-    → Leads (λ (h : Behind). operand_from d h) (λ h. declared_from d x.line false b h) ts a
+    → Leads (λ (h : Behind). operand_from d h) (λ h. declared_from d x.line false (Some b) h) ts a
 by_opening {x = x} {b = b} d (based c) s q o g j e i = first_step
-    (λ (h : Behind). operand_from d h) (λ h. declared_from d x.line false b h) d q i
+    (λ (h : Behind). operand_from d h) (λ h. declared_from d x.line false (Some b) h) d q i
     (λ k. ap (λ z. first_operand d x.line z k.declaration k.value) o
-    ∙ ap (λ z. Some (d, declared_from d x.line false z k)) (same_base e))
+    ∙ ap (λ z. Some (d, declared_from d x.line false (Some z) k)) (same_base e))
 by_opening {x = x} {b = b} {a = a} d (named c) s q o g j e i = onward
     (first_step (λ (h : Behind). operand_from d h)
-    (λ h. declared_or d (a_declared d x.line false b h.declaration) (named_rest d x.line c h))
+    (λ h. declared_or d (a_declared d x.line false (Some b) h.declaration) (named_rest d x.line c h))
     d q i (λ k. ap (λ z. first_operand d x.line z k.declaration k.value) o
     ∙ ap (λ z. Some (
       d,
-      declared_or d (a_declared d x.line false z k.declaration) (named_rest d x.line c k),
+      declared_or d (a_declared d x.line false (Some z) k.declaration) (named_rest d x.line c k),
     )) (same_base e)))
     (record {
-      by = λ h. declared_on a d (a_declared d x.line false b h.declaration)
+      by = λ h. declared_on a d (a_declared d x.line false (Some b) h.declaration)
           (named_rest d x.line c h) (named_on c s a g j);
     })
 by_opening d _ s q o g j e i = absurd (none_some e)
@@ -251,9 +294,9 @@ by_opening d _ s q o g j e i = absurd (none_some e)
 pub a_declaration_here : {x : Token} {b : Base} {ts a r : List Token} (d : ℕ) (s : Seen)
     → ts ≡ x ∷ a → Agrees (opening x.line x.kind) s → begins_with_base s a ≡ true
     → IsBaseAt ts b r → d ≤ MAX_NESTING
-    → Leads (λ (h : Behind). operand_from d h) (λ h. declared_from d x.line false b h) ts r
+    → Leads (λ (h : Behind). operand_from d h) (λ h. declared_from d x.line false (Some b) h) ts r
 a_declaration_here {x = x} {b = b} {ts = ts} d s q g j (e, f) i = subst
-    (λ y. Leads (λ (h : Behind). operand_from d h) (λ h. declared_from d x.line false b h) ts y)
+    (λ y. Leads (λ (h : Behind). operand_from d h) (λ h. declared_from d x.line false (Some b) h) ts y)
     (sym (f ∙ ap after q))
     (by_opening d (opening x.line x.kind) s q refl g j (ap next_base_of (sym q) ∙ e) i)
 

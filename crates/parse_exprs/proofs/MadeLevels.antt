@@ -13,8 +13,8 @@ use Rattle.parse_exprs.specs.declared.opening.Lead.TheVariants as lead
 use Rattle.parse_exprs.specs.declared.opening.Start.{Start}
 use Rattle.parse_exprs.specs.declared.opening.Start.TheVariants as start
 use Rattle.parse_exprs.specs.Machine.{State, a_type, postfix, unary, calls, durs, casts, joins}
-use Rattle.parse_exprs.specs.Machine.{asks, sizes, a_cond}
-use Rattle.parse_exprs.specs.Operands.{a_dur, a_level, all_closed, arguments_of, closed, led}
+use Rattle.parse_exprs.specs.Machine.{asks, a_cond, arguments, new_rest}
+use Rattle.parse_exprs.specs.Operands.{a_dur, a_level, all_closed, closed, led}
 use Rattle.parse_exprs.specs.Operands.{started, suffixed}
 use Rattle.parse_exprs.specs.Reads.{Leads, StopsAt, Missing, Deepens, IsBaseAt, NoBase, NoName}
 use Rattle.parse_exprs.specs.Tokens.{Then, a_mark, has}
@@ -102,12 +102,12 @@ leads_as {s = s} {ts = ts} {a = a} {x = x} d y h e r = subst
     (subst (λ s. Leads (λ (k : K2). suffixed s d y k) (λ k. calls d x k) ts a) (sym h) r)
 
 pub call_fault : {s : Suffix} (ts : List Token) (d : ℕ) (y : Expr) (e : Fault) → s ≡ suffix.Call
-    → StopsAt (λ (k : KS). arguments_of d k) ts e → StopsAt (λ (k : K2). suffixed s d y k) ts e
+    → StopsAt (λ (k : KS). arguments d k) ts e → StopsAt (λ (k : K2). suffixed s d y k) ts e
 call_fault ts d y e h r =
-    stops_as ts d y e h (stops_inside (λ (k : KS). arguments_of d k) ts (call_rest d y) e r)
+    stops_as ts d y e h (stops_inside (λ (k : KS). arguments d k) ts (call_rest d y) e r)
 
 pub call_made : {s : Suffix} {ts a : List Token} {es : Exprs} {z : Expr} (d : ℕ) (y : Expr)
-    → s ≡ suffix.Call → Leads (λ (k : KS). arguments_of d k) (λ k. k es) ts a → z
+    → s ≡ suffix.Call → Leads (λ (k : KS). arguments d k) (λ k. k es) ts a → z
     ≡ t.call (expr_line y) y es → Leads (λ (k : K2). suffixed s d y k) (λ k. calls d z k) ts a
 call_made d y h r e = leads_as d y h e (inside (call_rest d y) r)
 
@@ -191,8 +191,8 @@ dur_end {a = a} {y = y} d c l h = onward l (durs_over a c y h)
 abbrev prefix_rest : ℕ → PrefixOp → K2 → K2
 prefix_rest l o k e c = k (t.prefix l o e) c
 
-abbrev new_rest : ℕ → ℕ → K2 → Base → Exprs → State
-new_rest d l k b es = k (t.new l b es) d
+abbrev new_end : ℕ → K2 → K1
+new_end d k e = k e d
 
 abbrev spork_rest : ℕ → K2 → K2
 spork_rest l k e c = k (t.spork l e) c
@@ -222,26 +222,24 @@ prefix_made d l c o h r e = lead_leads_as d l c h e (inside (prefix_rest l o) r)
 pub new_base_fault : {s : Lead} (ts : List Token) (d l : ℕ) (e : Fault) → s ≡ lead.New
     → NoBase ts e → StopsAt (λ (k : K2). led s d l k) ts e
 new_base_fault ts d l e h r = lead_stops_as ts d l e h
-    (no_base ts d (λ (k : K2) b. sizes d no_exprs (new_rest d l k b)) e r)
+    (no_base ts d (λ (k : K2) b. new_rest d l b (new_end d k)) e r)
 
 in_new : {b : Base} (ts a : List Token) (d l : ℕ) → IsBaseAt ts b a → d ≤ MAX_NESTING
-    → Leads (λ (k : K2). led lead.New d l k) (λ k. sizes d no_exprs (new_rest d l k b)) ts a
-in_new ts a d l r i = past_base d (λ (k : K2) b. sizes d no_exprs (new_rest d l k b)) r i
+    → Leads (λ (k : K2). led lead.New d l k) (λ k. new_rest d l b (new_end d k)) ts a
+in_new ts a d l r i = past_base d (λ (k : K2) b. new_rest d l b (new_end d k)) r i
 
-abbrev new_of : ℕ → ℕ → Base → K2 → KS
-new_of d l b k = new_rest d l k b
-
-pub new_sizes_fault : {s : Lead} {b : Base} (ts a : List Token) (d l : ℕ) (e : Fault)
+pub object_fault : {s : Lead} {b : Base} (ts a : List Token) (d l : ℕ) (e : Fault)
     → s ≡ lead.New → IsBaseAt ts b a → d ≤ MAX_NESTING
-    → StopsAt (λ (k : KS). sizes d no_exprs k) a e → StopsAt (λ (k : K2). led s d l k) ts e
-new_sizes_fault {b = b} ts a d l e h q i r = lead_stops_as ts d l e h
-    (stopped (λ (k : KS). sizes d no_exprs k) (new_of d l b) e (in_new ts a d l q i) r)
+    → StopsAt (λ (k : K1). new_rest d l b k) a e → StopsAt (λ (k : K2). led s d l k) ts e
+object_fault {b = b} ts a d l e h q i r = lead_stops_as ts d l e h
+    (stopped (λ (k : K1). new_rest d l b k) (new_end d) e (in_new ts a d l q i) r)
 
-pub new_made : {s : Lead} {ts a c : List Token} {b : Base} {es : Exprs} {z : Expr} (d l : ℕ)
-    → s ≡ lead.New → IsBaseAt ts b a → d ≤ MAX_NESTING → Leads (λ (k : KS). sizes d no_exprs k)
-    (λ k. k es) a c → z ≡ t.new l b es → Leads (λ (k : K2). led s d l k) (λ k. k z d) ts c
-new_made {ts = ts} {a = a} {b = b} {es = es} d l h q i r e = lead_leads_as d l d h e
-    (made (λ (k : KS). sizes d no_exprs k) (λ k. k es) (new_of d l b) (in_new ts a d l q i) r)
+pub new_made : {s : Lead} {ts a c : List Token} {b : Base} {z : Expr} (d l : ℕ)
+    → s ≡ lead.New → IsBaseAt ts b a → d ≤ MAX_NESTING
+    → Leads (λ (k : K1). new_rest d l b k) (λ k. k z) a c
+    → Leads (λ (k : K2). led s d l k) (λ k. k z d) ts c
+new_made {ts = ts} {a = a} {b = b} {z = z} d l h q i r = lead_leads_as d l d h refl
+    (made (λ (k : K1). new_rest d l b k) (λ k. k z) (new_end d) (in_new ts a d l q i) r)
 
 pub no_tilde : {s : Lead} (ts : List Token) (d l : ℕ) (e : Fault) → s ≡ lead.Spork
     → Missing (a_mark m.Tilde) ts e → StopsAt (λ (k : K2). led s d l k) ts e

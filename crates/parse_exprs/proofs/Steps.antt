@@ -14,7 +14,8 @@ use Rattle.parse_exprs.specs.Machine.{or_else, is_shallow, sign, pairs, a_name, 
 use Rattle.parse_exprs.specs.Machine.{next_base, given}
 use Rattle.parse_exprs.specs.Reads.{Leads, StopsAt, Missing, Deepens, NoName, NoBase, IsBaseAt}
 use Rattle.parse_exprs.specs.Reads.{is_name, base_of}
-use Rattle.parse_exprs.specs.Tokens.{Then, then, Opening, opening, Sign, a_word, a_mark, kind_of}
+use Rattle.parse_exprs.specs.Tokens.{Then, then, Opening, opening, Sign, a_word, a_mark, a_construct}
+use Rattle.parse_exprs.specs.Tokens.{kind_of}
 use Rattle.parse_exprs.specs.Tokens.{is_sign, word_number, mark_number, named, based}
 use Rattle.parse_exprs.proofs.TokenKinds.{is_that, then_at}
 use Rattle.ck_syntax.specs.declared.declaration.Base.{Base}
@@ -96,6 +97,7 @@ deepened S T d (Memory _) p h i = absurd h
 pub sign-self : (j : Sign) → is_sign (kind_of j) j ≡ true
 sign-self (a_word x) = eq-eqb (word_number x) (word_number x) refl
 sign-self (a_mark x) = eq-eqb (mark_number x) (mark_number x) refl
+sign-self a_construct = refl
 
 -- that word or mark
 pub past_sign : {K : Type 0} {ts rest : List Token} (j : Sign) (d : ℕ) (T : K → State)

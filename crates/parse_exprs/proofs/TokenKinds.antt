@@ -2,6 +2,7 @@
 use Rattle.std.proofs.Common.{◌≡◌, ℕ, List, ◌∷◌, true, cond, Option, Some, None, refl, sym, ◌∙◌, ap}
 use Rattle.std.proofs.Common.{subst, ◌==◌}
 use Rattle.std.proofs.lemmas.Bool.{eqb-true}
+use Rattle.std.proofs.lemmas.Slice.Eq.{bytes_eq-Decides}
 use Rattle.ck_lexer.specs.declared.mark.Mark.{Mark as AMark}
 use Rattle.ck_lexer.specs.declared.mark.Mark.TheVariants as m
 use Rattle.ck_lexer.specs.declared.token.Token.{Token}
@@ -12,11 +13,13 @@ use Rattle.ck_lexer.specs.declared.word.Word.TheVariants as w
 use Rattle.parse_exprs.specs.declared.follow.Follow.{Follow}
 use Rattle.parse_exprs.specs.declared.follow.Follow.TheVariants as f
 use Rattle.parse_exprs.specs.Tokens.{Begins, begins, Then, then, Opening, named, opens_paren}
-use Rattle.parse_exprs.specs.Tokens.{opens_array, opens_new, opens_spork, opens_static, opens_empty}
+use Rattle.parse_exprs.specs.Tokens.{opens_array, opens_new, opens_spork, opens_static, opens_auto}
+use Rattle.parse_exprs.specs.Tokens.{opens_empty}
 use Rattle.parse_exprs.specs.Tokens.{opens_block, opens_print, opens_if, opens_while, opens_until}
 use Rattle.parse_exprs.specs.Tokens.{opens_do, opens_for, opens_repeat, opens_break, opens_continue}
 use Rattle.parse_exprs.specs.Tokens.{opens_return, opens_fun, opens_class, opens_public, opening}
-use Rattle.parse_exprs.specs.Tokens.{follow, Sign, a_word, a_mark, kind_of, word_number}
+use Rattle.parse_exprs.specs.Tokens.{follow, Sign, a_word, a_mark, a_construct, construct, kind_of}
+use Rattle.parse_exprs.specs.Tokens.{word_number}
 use Rattle.parse_exprs.specs.Tokens.{mark_number, is_sign}
 
 -- ---- words and marks by their numbers
@@ -40,7 +43,7 @@ word_of c = (cond (c == 0) w.Int (cond (c == 1) w.Float
     (cond (c == 30) w.This (cond (c == 31) w.Samp
     (cond (c == 32) w.Ms (cond (c == 33) w.Second
     (cond (c == 34) w.Minute (cond (c == 35) w.Hour
-    (cond (c == 36) w.Day w.Week)))))))))))))))))))))))))))))))))))))
+    (cond (c == 36) w.Day (cond (c == 37) w.Week w.Auto))))))))))))))))))))))))))))))))))))))
 
 abbrev mark_of : ℕ → AMark
 mark_of c = (cond (c == 0) m.Chuck (cond (c == 1) m.AtChuck
@@ -108,6 +111,7 @@ word_of-number w.Minute = refl
 word_of-number w.Hour = refl
 word_of-number w.Day = refl
 word_of-number w.Week = refl
+word_of-number w.Auto = refl
 
 mark_of-number : (x : AMark) → mark_of (mark_number x) ≡ x
 mark_of-number m.Chuck = refl
@@ -165,6 +169,7 @@ is_that (Word x) (a_word y) h = ap Word (sym (word_of-number x)
     ∙ ap word_of (eqb-true (word_number x) (word_number y) h) ∙ word_of-number y)
 is_that (Mark x) (a_mark y) h = ap Mark (sym (mark_of-number x)
     ∙ ap mark_of (eqb-true (mark_number x) (mark_number y) h) ∙ mark_of-number y)
+is_that (Name n) a_construct h = ap Name ((bytes_eq-Decides n construct).0 h)
 is_that _ _ h = cc
 
 -- ---- what opens or goes on by itself has one kind
@@ -176,6 +181,7 @@ plain opens_array = Some (Mark m.LeftBracket)
 plain opens_new = Some (Word w.New)
 plain opens_spork = Some (Word w.Spork)
 plain opens_static = Some (Word w.Static)
+plain opens_auto = Some (Word w.Auto)
 plain opens_block = Some (Mark m.LeftBrace)
 plain opens_empty = Some (Mark m.Semicolon)
 plain opens_print = Some (Mark m.PrintOpen)
@@ -210,6 +216,7 @@ matches_word : (l : ℕ) (x : AWord) → Matches (Word x) (plain (opening l (Wor
 matches_word l w.New = refl
 matches_word l w.Spork = refl
 matches_word l w.Static = refl
+matches_word l w.Auto = refl
 matches_word l w.If = refl
 matches_word l w.While = refl
 matches_word l w.Until = refl

@@ -84,8 +84,9 @@ LooksForChuck d ts r = (e : Expr) → Looks
     (λ x k. operand_from x.1 (either_way x.1 (λ g c. chucks c (chuck (expr_line e) e x.0 g) k)))
     (λ x. x.2.now) ts r
 
--- the base of a declaration, its line, and whether it is static
-abbrev pub LooksForBase : ℕ → List Token → Result (Option (ℕ × Bool × Base × Slice)) Fault → Type 0
+-- the base of a declaration or `auto`, its line, and whether it is static
+abbrev pub LooksForBase : ℕ → List Token
+    → Result (Option (ℕ × Bool × Option Base × Slice)) Fault → Type 0
 LooksForBase d ts r = Looks
     (λ (h : Behind). operand_from d h)
     (λ h. a_cond d h.value)

@@ -1,7 +1,8 @@
 -- A machine that passes over tokens by what is still to come, and stops at the first token that
 -- cannot come.
 use Rattle.std.specs.Prelude.{ℕ, zero, suc, nat_le, cond, List, [], ◌∷◌, ◌==◌, length, Bool, true}
-use Rattle.std.specs.Prelude.{false, Option, Some, None}
+use Rattle.std.specs.Prelude.{false, if◌then◌else◌, Option, Some, None}
+use Rattle.std.specs.Option.{option_map}
 use Rattle.ck_base.specs.declared.limits.TheConstants.{MAX_NESTING}
 use Rattle.ck_lexer.specs.declared.mark.Mark.TheVariants as m
 use Rattle.ck_lexer.specs.declared.token.Token.{Token}
@@ -11,15 +12,17 @@ use Rattle.ck_lexer.specs.declared.word.Word.TheVariants as w
 use Rattle.parse_exprs.specs.declared.follow.Follow.{Follow}
 use Rattle.parse_exprs.specs.declared.follow.Follow.TheVariants as f
 use Rattle.parse_exprs.specs.Tokens.{Opening, atom, named, prefixed, based, opens_paren}
-use Rattle.parse_exprs.specs.Tokens.{opens_array, opens_new, opens_spork, opens_static, opens_block}
+use Rattle.parse_exprs.specs.Tokens.{opens_array, opens_new, opens_spork, opens_static, opens_auto}
+use Rattle.parse_exprs.specs.Tokens.{opens_block}
 use Rattle.parse_exprs.specs.Tokens.{opens_empty, opens_print, opens_if, opens_while, opens_until}
 use Rattle.parse_exprs.specs.Tokens.{opens_do, opens_for, opens_repeat, opens_break, opens_continue}
 use Rattle.parse_exprs.specs.Tokens.{opens_return, opens_fun, opens_class, opens_public, opening}
-use Rattle.parse_exprs.specs.Tokens.{follow, level, Sign, a_word, a_mark, is_sign}
+use Rattle.parse_exprs.specs.Tokens.{follow, level, Sign, a_word, a_mark, a_construct, is_sign}
 use Rattle.ck_syntax.specs.Tree as t
 use Rattle.ck_syntax.specs.Tree.{Expr, Exprs, Brackets, Declr, Declrs, Stmt, Stmts, Fun, Params}
 use Rattle.ck_syntax.specs.Tree.{Member, Members, Class, Item, File, expr_line, no_exprs, and_expr}
-use Rattle.ck_syntax.specs.Tree.{no_brackets, and_empty, and_size, declr, no_declrs, and_declr}
+use Rattle.ck_syntax.specs.Tree.{no_brackets, and_empty, and_size, declr, declr_with, declr_name}
+use Rattle.ck_syntax.specs.Tree.{no_declrs, and_declr}
 use Rattle.ck_syntax.specs.Tree.{no_stmts, and_stmt, no_params, and_param, no_members, and_member}
 use Rattle.ck_syntax.specs.Tree.{no_items, and_item}
 use Rattle.ck_syntax.specs.declared.declaration.Base.{Base}
@@ -32,9 +35,9 @@ use Rattle.ck_syntax.specs.declared.file.Param.{Param}
 -- tail, as `calls`, has the tree so far and may be over.
 pub data State : Type 0 where
   done : File → State
-  -- this word or mark
+  -- this word, mark or name
   sign : ℕ → Sign → State → State
-  -- this word or mark and then the first, or else the second
+  -- this word, mark or name and then the first, or else the second
   may : ℕ → Sign → State → State → State
   a_name : ℕ → (t.Name → State) → State
   a_base : ℕ → (Base → State) → State
@@ -62,6 +65,8 @@ pub data State : Type 0 where
   more_exprs : ℕ → Exprs → (Exprs → State) → State
   more_declrs : ℕ → Declrs → (Declrs → State) → State
   an_expr_stmt : ℕ → (Stmt → State) → State
+  -- the same, or what stands before the ':' in the parentheses of a `for`, and the ':'
+  for_start : ℕ → (DeclHead → t.Name → ℕ → State) → (Stmt → State) → State
   a_stmt : ℕ → (Stmt → State) → State
   -- Stmt*, (',' Par)*, (FunDef | Stmt)*, Item* End
   stmts : ℕ → Stmts → (Stmts → State) → State
@@ -104,18 +109,38 @@ some_exprs d k = an_expr d (λ e. more_exprs d (and_expr no_exprs e) k)
 abbrev pub a_type : ℕ → (TypeName → State) → State
 a_type d k = a_base d (λ b. pairs d 0 (λ n. k (record { base = b; brackets = n })))
 
+-- Base | 'auto'
+abbrev pub a_head_base : ℕ → (Option Base → State) → State
+a_head_base d k = may d (a_word w.Auto) (k None) (a_base d (λ b. k (Some b)))
+
+-- (Expr (',' Expr)*)? ')'
+abbrev pub arguments : ℕ → (Exprs → State) → State
+arguments d k = may d (a_mark m.RightParen) (k no_exprs)
+    (some_exprs d (λ es. sign d (a_mark m.RightParen) (k es)))
+
+-- '(' (Expr (',' Expr)*)? ')' or ('[' Expr? ']')*, behind a declared name
+abbrev pub declr_rest : ℕ → t.Name → (Declr → State) → State
+declr_rest d n k = may (suc d) (a_mark m.LeftParen) (arguments (suc d) (λ es. k (declr_with n es)))
+    (brackets d no_brackets (λ bs. k (declr n bs)))
+
 abbrev pub a_declr : ℕ → (Declr → State) → State
-a_declr d k = a_name d (λ n. brackets d no_brackets (λ bs. k (declr n bs)))
+a_declr d k = a_name d (λ n. declr_rest d n k)
 
 -- '(' Expr ')'
 abbrev pub a_test : ℕ → (Expr → State) → State
 a_test d k = sign (suc d) (a_mark m.LeftParen)
     (an_expr (suc d) (λ e. sign (suc d) (a_mark m.RightParen) (k e)))
 
--- '@'? Declr, behind a base
-abbrev pub a_declared : ℕ → ℕ → Bool → Base → (ℕ → DeclHead → Declr → State) → Bool → t.Name → State
-a_declared d l s b k r n = brackets d no_brackets
-    (λ bs. k l (record { is_static = s; base = b; is_reference = r }) (declr n bs))
+-- '@'? Declr, behind a base or `auto`
+abbrev pub a_declared : ℕ → ℕ → Bool → Option Base → (ℕ → DeclHead → Declr → State) → Bool → t.Name
+    → State
+a_declared d l s b k r n =
+    declr_rest d n (λ x. k l (record { is_static = s; base = b; is_reference = r }) x)
+
+-- '(' (Expr (',' Expr)*)? ')' or ('[' Expr ']')*, behind the base of a `new` of this line
+abbrev pub new_rest : ℕ → ℕ → Base → (Expr → State) → State
+new_rest d l b k = may (suc d) (a_mark m.LeftParen)
+    (arguments (suc d) (λ es. k (t.new_with l b es))) (sizes d no_exprs (λ es. k (t.new l b es)))
 
 -- ---- what is to come after a first token
 
@@ -133,18 +158,20 @@ first_postfix d l _ k = None
 abbrev pub first_unary : ℕ → ℕ → Opening → (Expr → ℕ → State) → Next
 first_unary d l (prefixed o) k = Some (suc d, unary (suc d) (λ e c. k (t.prefix l o e) c))
 first_unary d l opens_new k =
-    Some (suc d, a_base (suc d) (λ b. sizes (suc d) no_exprs (λ es. k (t.new l b es) (suc d))))
+    Some (suc d, a_base (suc d) (λ b. new_rest (suc d) l b (λ e. k e (suc d))))
 first_unary d l opens_spork k =
     Some (suc d, sign (suc d) (a_mark m.Tilde) (postfix (suc d) (λ e c. k (t.spork l e) c)))
 first_unary d l o k = first_postfix d l o (λ e c. durs c e k)
 
 abbrev pub first_operand : ℕ → ℕ → Opening → (ℕ → DeclHead → Declr → State) → (Expr → ℕ → State)
     → Next
-first_operand d l (based b) h k = Some (d, declared d (a_declared d l false b h))
-first_operand d l opens_static h k = Some (d, a_base d (λ b. declared d (a_declared d l true b h)))
+first_operand d l (based b) h k = Some (d, declared d (a_declared d l false (Some b) h))
+first_operand d l opens_auto h k = Some (d, declared d (a_declared d l false None h))
+first_operand d l opens_static h k =
+    Some (d, a_head_base d (λ b. declared d (a_declared d l true b h)))
 first_operand d l (named n) h k = Some (
   d,
-  declared_or d (a_declared d l false (a_class n) h)
+  declared_or d (a_declared d l false (Some (a_class n)) h)
       (calls d (t.name l n) (λ e c. durs c e (λ g b. cond_rest b g k))),
 )
 first_operand d l o h k = first_unary d l o (λ e c. cond_rest c e k)
@@ -163,6 +190,38 @@ declares_or d k l h x = may d (a_mark m.Comma)
 abbrev pub first_expr_stmt : ℕ → ℕ → Opening → (Stmt → State) → Next
 first_expr_stmt d l opens_empty k = Some (d, k (t.empty l))
 first_expr_stmt d l o k = first_operand d l o (declares_or d k) (λ e c. chucks c e (simple_end d k))
+
+-- how many pairs of brackets, where none has a size
+abbrev pub empty_pairs : Brackets → Option ℕ
+empty_pairs no_brackets = Some 0
+empty_pairs (and_empty bs) = option_map suc (empty_pairs bs)
+empty_pairs (and_size bs e) = None
+
+-- how many the head of a `for` over items has, if it is one
+abbrev pub each_pairs : DeclHead → Declr → Option ℕ
+each_pairs h (declr n bs) = if h.is_static then None else empty_pairs bs
+each_pairs h (declr_with n es) = None
+
+abbrev pub colon_or : ℕ → (DeclHead → t.Name → ℕ → State) → DeclHead → Declr → Option ℕ → State
+    → State
+colon_or d f h x None s = s
+colon_or d f h x (Some q) s = may d (a_mark m.Colon) (f h (declr_name x) q) s
+
+-- behind the first declarator in the parentheses of a `for`: ':' where it may stand, or else what
+-- goes on with a statement
+abbrev pub each_or : ℕ → (DeclHead → t.Name → ℕ → State) → (Stmt → State) → ℕ → DeclHead → Declr
+    → State
+each_or d f k l h x = colon_or d f h x (each_pairs h x) (declares_or d k l h x)
+
+abbrev pub first_start : ℕ → ℕ → Opening → (DeclHead → t.Name → ℕ → State) → (Stmt → State)
+    → Next
+first_start d l opens_empty f k = Some (d, k (t.empty l))
+first_start d l o f k = first_operand d l o (each_or d f k) (λ e c. chucks c e (simple_end d k))
+
+-- behind the ':' of a `for`
+abbrev pub after_colon : ℕ → ℕ → (Stmt → State) → DeclHead → t.Name → ℕ → State
+after_colon d l k h n q = an_expr (suc d) (λ e. sign (suc d) (a_mark m.RightParen)
+    (a_stmt (suc d) (λ s. k (t.for_each l h n q e s))))
 
 abbrev pub first_stmt : ℕ → ℕ → Opening → (Stmt → State) → Next
 first_stmt d l opens_block k =
@@ -190,7 +249,8 @@ first_stmt d l opens_do k = Some (
 first_stmt d l opens_for k = Some (
   d,
   sign (suc d) (a_mark m.LeftParen)
-      (an_expr_stmt (suc d) (λ x. an_expr_stmt (suc d) (λ y. may (suc d) (a_mark m.RightParen)
+      (for_start (suc d) (after_colon d l k) (λ x. an_expr_stmt (suc d)
+      (λ y. may (suc d) (a_mark m.RightParen)
       (a_stmt (suc d) (λ s. k (t.for_do l x y None s)))
       (an_expr (suc d) (λ e. sign (suc d) (a_mark m.RightParen)
       (a_stmt (suc d) (λ s. k (t.for_do l x y (Some e) s)))))))),
@@ -214,19 +274,24 @@ abbrev pub a_param : (Param → State) → State
 a_param k = a_type 1
     (λ b. a_name 1 (λ n. pairs 1 0 (λ q. k (record { kind = b; name = n; brackets = q }))))
 
--- a function behind its name
-abbrev pub after_name : ℕ → Bool → TypeName → t.Name → (Fun → State) → State
-after_name l s b n k = sign 1 (a_mark m.LeftParen) (may 1 (a_mark m.RightParen)
-    (a_block (λ ss. k (t.fun l s b n no_params ss)))
+-- '(' (Par (',' Par)*)? ')' Block
+abbrev pub with_params : (Params → Stmts → State) → State
+with_params k = sign 1 (a_mark m.LeftParen) (may 1 (a_mark m.RightParen) (a_block (k no_params))
     (a_param (λ p. more_params 1 (and_param no_params p)
-    (λ ps. sign 1 (a_mark m.RightParen) (a_block (λ ss. k (t.fun l s b n ps ss)))))))
+    (λ ps. sign 1 (a_mark m.RightParen) (a_block (k ps))))))
 
--- the same behind its word and `static`
+-- a function behind its word and `static`
 abbrev pub signature : ℕ → Bool → (Fun → State) → State
-signature l s k = a_type 0 (λ b. a_name 0 (λ n. after_name l s b n k))
+signature l s k =
+    a_type 0 (λ b. a_name 0 (λ n. with_params (λ ps ss. k (t.fun l s b n ps ss))))
+
+-- a constructor behind its '@'
+abbrev pub after_at : ℕ → (Fun → State) → State
+after_at l k = sign 0 a_construct (with_params (λ ps ss. k (t.constructor l ps ss)))
 
 abbrev pub after_fun : ℕ → (Fun → State) → State
-after_fun l k = may 0 (a_word w.Static) (signature l true k) (signature l false k)
+after_fun l k = may 0 (a_mark m.At) (after_at l k)
+    (may 0 (a_word w.Static) (signature l true k) (signature l false k))
 
 -- the braces of a class
 abbrev pub class_body : ℕ → Bool → t.Name → Option t.Name → (Class → State) → State
@@ -252,12 +317,8 @@ first_item l o k = first_stmt 0 l o (λ s. k (t.stmt_item s))
 -- ---- what is to come after a token that goes on
 
 abbrev pub next_call : ℕ → Expr → (Expr → ℕ → State) → Follow → Next
-next_call d e k f.Call = Some (
-  suc d,
-  may (suc d) (a_mark m.RightParen) (calls (suc d) (t.call (expr_line e) e no_exprs) k)
-      (some_exprs (suc d) (λ es. sign (suc d) (a_mark m.RightParen)
-      (calls (suc d) (t.call (expr_line e) e es) k))),
-)
+next_call d e k f.Call =
+    Some (suc d, arguments (suc d) (λ es. calls (suc d) (t.call (expr_line e) e es) k))
 next_call d e k f.Index = Some (
   suc d,
   an_expr (suc d)
@@ -354,6 +415,7 @@ step (more_exprs d es k) t = or_else (after_sign t.kind (a_mark m.Comma) d
 step (more_declrs d xs k) t = or_else (after_sign t.kind (a_mark m.Comma) d
     (a_declr d (λ x. more_declrs d (and_declr xs x) k))) (step (k xs) t)
 step (an_expr_stmt d k) t = first_expr_stmt d t.line (opening t.line t.kind) k
+step (for_start d f k) t = first_start d t.line (opening t.line t.kind) f k
 step (a_stmt d k) t = first_stmt d t.line (opening t.line t.kind) k
 step (stmts d ss k) t = or_else (first_stmt d t.line (opening t.line t.kind)
     (λ s. stmts d (and_stmt ss s) k)) (step (k ss) t)

@@ -13,13 +13,13 @@ use Rattle.parse_exprs.specs.declared.opening.Start.{Start}
 use Rattle.parse_exprs.specs.declared.opening.Start.TheVariants as start
 use Rattle.parse_exprs.specs.declared.operand.Operand.{Operand}
 use Rattle.parse_exprs.specs.declared.operand.Operand.TheVariants.{Declaration, Value}
-use Rattle.parse_exprs.specs.Machine.{State, a_base, a_declared, a_name, an_expr, brackets, calls}
-use Rattle.parse_exprs.specs.Machine.{declared, durs, joined, may, operand, postfix, sign, sizes}
-use Rattle.parse_exprs.specs.Machine.{some_exprs, unary}
+use Rattle.parse_exprs.specs.Machine.{State, a_base, a_declared, a_name, an_expr, arguments, calls}
+use Rattle.parse_exprs.specs.Machine.{declared, declr_rest, durs, joined, may, operand, postfix, sign}
+use Rattle.parse_exprs.specs.Machine.{some_exprs, unary, new_rest}
 use Rattle.parse_exprs.specs.Tokens.{Sign, a_mark}
 use Rattle.ck_syntax.specs.Tree as t
-use Rattle.ck_syntax.specs.Tree.{Expr, Exprs, Brackets, Declr, Name, expr_line, no_exprs}
-use Rattle.ck_syntax.specs.Tree.{no_brackets, and_empty, and_size, declr}
+use Rattle.ck_syntax.specs.Tree.{Expr, Exprs, Brackets, Declr, Name, expr_line, and_empty}
+use Rattle.ck_syntax.specs.Tree.{and_size}
 use Rattle.ck_syntax.specs.View.{view_expr, view_declr}
 use Rattle.ck_syntax.specs.declared.declaration.Base.{Base}
 use Rattle.ck_syntax.specs.declared.declaration.DeclHead.{DeclHead}
@@ -37,17 +37,12 @@ pub record Behind : Type 0 where
 abbrev pub operand_from : ℕ → Behind → State
 operand_from d h = operand d h.declaration h.value
 
-abbrev pub declared_from : ℕ → ℕ → Bool → Base → Behind → State
+abbrev pub declared_from : ℕ → ℕ → Bool → Option Base → Behind → State
 declared_from d l s b h = declared d (a_declared d l s b h.declaration)
 
 abbrev pub operand_next : Operand → Behind → State
 operand_next (Declaration l head x) h = h.declaration l head (view_declr x)
 operand_next (Value e d) h = h.value (view_expr e.value) d
-
--- (Expr (',' Expr)*)? ')'
-abbrev pub arguments_of : ℕ → (Exprs → State) → State
-arguments_of d k = may d (a_mark m.RightParen) (k no_exprs)
-    (some_exprs d (λ es. sign d (a_mark m.RightParen) (k es)))
 
 -- what is to come behind an operand that serves as an expression, where a declaration stands at
 -- this depth
@@ -58,9 +53,9 @@ abbrev pub IsShallow : Operand → Type 0
 IsShallow (Declaration l head x) = Unit {0}
 IsShallow (Value e d) = d ≤ MAX_NESTING
 
--- ('[' Expr? ']')* behind the name of a declaration
+-- what is to come behind the name of a declaration
 abbrev pub named_from : ℕ → ℕ → DeclHead → Name → Behind → State
-named_from d l head n h = brackets d no_brackets (λ bs. h.declaration l head (declr n bs))
+named_from d l head n h = declr_rest d n (h.declaration l head)
 
 -- the pairs of brackets, and one more, with a size or none
 abbrev pub bracketed : Brackets → Option Expr → Brackets
@@ -109,7 +104,7 @@ suffix_of _ = None
 
 -- what is to come behind a token that goes on with a Postfix
 abbrev pub suffixed : Suffix → ℕ → Expr → (Expr → ℕ → State) → State
-suffixed s.Call d e k = arguments_of d (λ es. calls d (t.call (expr_line e) e es) k)
+suffixed s.Call d e k = arguments d (λ es. calls d (t.call (expr_line e) e es) k)
 suffixed s.Index d e k =
     closed d (a_mark m.RightBracket) (λ i. calls d (t.index (expr_line e) e i) k)
 suffixed s.Member d e k = a_name d (λ n. calls d (t.member (expr_line e) e n) k)
@@ -118,5 +113,5 @@ suffixed (s.Postfix o) d e k = calls d (t.postfix (expr_line e) e o) k
 -- the same behind what begins a Unary
 abbrev pub led : Lead → ℕ → ℕ → (Expr → ℕ → State) → State
 led (lead.Prefix o) d l k = unary d (λ e c. k (t.prefix l o e) c)
-led lead.New d l k = a_base d (λ b. sizes d no_exprs (λ es. k (t.new l b es) d))
+led lead.New d l k = a_base d (λ b. new_rest d l b (λ e. k e d))
 led lead.Spork d l k = sign d (a_mark m.Tilde) (postfix d (λ e c. k (t.spork l e) c))

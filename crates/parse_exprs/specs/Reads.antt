@@ -15,7 +15,8 @@ use Rattle.parse_exprs.specs.declared.opening.Opening.{Opening as Seen}
 use Rattle.parse_exprs.specs.declared.opening.Opening.TheVariants as seen
 use Rattle.parse_exprs.specs.Machine.{State, Stop, faulty, deep, left}
 use Rattle.parse_exprs.specs.Tokens.{Then, Opening, atom, named, prefixed, based, opens_paren}
-use Rattle.parse_exprs.specs.Tokens.{opens_array, opens_new, opens_spork, opens_static, opens_block}
+use Rattle.parse_exprs.specs.Tokens.{opens_array, opens_new, opens_spork, opens_static, opens_auto}
+use Rattle.parse_exprs.specs.Tokens.{opens_block}
 use Rattle.parse_exprs.specs.Tokens.{opens_empty, opens_print, opens_if, opens_while, opens_until}
 use Rattle.parse_exprs.specs.Tokens.{opens_do, opens_for, opens_repeat, opens_break, opens_continue}
 use Rattle.parse_exprs.specs.Tokens.{opens_return, opens_fun, opens_class, opens_public}
@@ -63,6 +64,7 @@ Agrees o seen.Array = o ≡ opens_array
 Agrees o seen.New = o ≡ opens_new
 Agrees o seen.Spork = o ≡ opens_spork
 Agrees o seen.Static = o ≡ opens_static
+Agrees o seen.Auto = o ≡ opens_auto
 Agrees o seen.Block = o ≡ opens_block
 Agrees o seen.Empty = o ≡ opens_empty
 Agrees o seen.Print = o ≡ opens_print
@@ -89,13 +91,13 @@ atom_of _ l = None
 abbrev pub Atoms : Opening → ℕ → Option t.Expr → Type 0
 Atoms o l e = atom_of o l ≡ e
 
--- that word or mark does not come next
+-- that word, mark or name does not come next
 abbrev pub Missing : Sign → List Token → Fault → Type 0
 Missing j ts (Syntax n) = (n ≡ length ts) × (has j ts ≡ false)
 Missing j ts (TooDeep n) = ⊥
 Missing j ts (Memory _) = ⊥
 
--- what stands behind that word or mark; or it does not come next
+-- what stands behind that word, mark or name; or it does not come next
 abbrev pub Eats : Sign → List Token → Option Slice → Type 0
 Eats j ts r = MatchOption r (has j ts ≡ false) (λ rest. Then (kind_of j) ts rest.now)
 

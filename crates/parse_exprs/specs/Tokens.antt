@@ -1,5 +1,6 @@
 -- What a token is to the grammar.
-use Rattle.std.specs.Prelude.{ℕ, List, [], ◌∷◌, Bool, false, ◌==◌}
+use Rattle.std.specs.Prelude.{ℕ, List, [], ◌∷◌, Bool, false, ◌==◌, codes}
+use Rattle.std.specs.Str.{bytes_eq}
 use Rattle.ck_lexer.specs.declared.mark.Mark.{Mark as AMark}
 use Rattle.ck_lexer.specs.declared.mark.Mark.TheVariants as m
 use Rattle.ck_lexer.specs.declared.token.Token.{Token}
@@ -43,6 +44,7 @@ pub data Opening : Type 0 where
   opens_new : Opening
   opens_spork : Opening
   opens_static : Opening
+  opens_auto : Opening
   opens_block : Opening
   opens_empty : Opening
   opens_print : Opening
@@ -96,6 +98,7 @@ opening l (kind.Mark m.LeftBracket) = opens_array
 opening l (Word w.New) = opens_new
 opening l (Word w.Spork) = opens_spork
 opening l (Word w.Static) = opens_static
+opening l (Word w.Auto) = opens_auto
 opening l (kind.Mark m.LeftBrace) = opens_block
 opening l (kind.Mark m.Semicolon) = opens_empty
 opening l (kind.Mark m.PrintOpen) = opens_print
@@ -215,6 +218,7 @@ word_number w.Minute = 34
 word_number w.Hour = 35
 word_number w.Day = 36
 word_number w.Week = 37
+word_number w.Auto = 38
 
 abbrev pub mark_number : AMark → ℕ
 mark_number m.Chuck = 0
@@ -267,22 +271,29 @@ mark_number m.RightBrace = 46
 mark_number m.At = 47
 mark_number m.Dollar = 48
 
--- a word or a mark
+-- the name of a constructor
+abbrev pub construct : t.Name
+construct = codes "construct"
+
+-- a word, a mark, or the name of a constructor
 pub data Sign : Type 0 where
   a_word : AWord → Sign
   a_mark : AMark → Sign
+  a_construct : Sign
 
 abbrev pub kind_of : Sign → TokenKind
 kind_of (a_word x) = Word x
 kind_of (a_mark x) = kind.Mark x
+kind_of a_construct = Name construct
 
--- whether a token is that word or mark
+-- whether a token is that word, mark or name
 abbrev pub is_sign : TokenKind → Sign → Bool
 is_sign (Word x) (a_word y) = word_number x == word_number y
 is_sign (kind.Mark x) (a_mark y) = mark_number x == mark_number y
+is_sign (Name n) a_construct = bytes_eq n construct
 is_sign _ _ = false
 
--- whether that word or mark comes next
+-- whether that word, mark or name comes next
 abbrev pub has : Sign → List Token → Bool
 has j [] = false
 has j (t ∷ ts) = is_sign t.kind j

@@ -13,7 +13,7 @@ use crate::operand::begins_declaration;
 use crate::tokens::{
     atom, chuck_at, deeper, eat_mark, expect_base, first, next, opening_of, operator_at,
 };
-use crate::type_name::declared_name;
+use crate::type_name::{declared_name, head_base};
 use ck_base::Text;
 use ck_lexer::{Mark, Token};
 use ck_syntax::{Base, BinaryOp, ChuckOp, DeclHead};
@@ -145,12 +145,13 @@ pub fn chuck<'a>(
     Ok(Some((operator, inside, behind)))
 }
 
-/// The base of a declaration, whether `static` stands before it, its line, and what stands behind.
+/// The base of a declaration or `None` for `auto`, whether `static` stands before it, its line, and
+/// what stands behind.
 fn declared_base<'a>(
     alloc: Global,
     depth: u32,
     tokens: &'a [Token],
-) -> Result<Option<(u32, bool, Base, &'a [Token])>, Fault>
+) -> Result<Option<(u32, bool, Option<Base>, &'a [Token])>, Fault>
     requires { depth ≤ MAX_NESTING }
     ensures reads { LooksForBase depth tokens.now result }
     ensures fewer { IfOk result (λ o. IfSome o (λ x. length x.3.now < length tokens.now)) }
@@ -160,14 +161,17 @@ fn declared_base<'a>(
     };
     let opening = opening_of(token);
     if let Opening::Static = opening {
-        let (base, rest) = expect_base(alloc, behind)?;
+        let (base, rest) = head_base(alloc, depth, behind)?;
         return Ok(Some((token.line, true, base, rest)));
+    }
+    if let Opening::Auto = opening {
+        return Ok(Some((token.line, false, None, behind)));
     }
     if !begins_declaration(opening, behind) {
         return Ok(None);
     }
     let (base, rest) = expect_base(alloc, tokens)?;
-    Ok(Some((token.line, false, base, rest)))
+    Ok(Some((token.line, false, Some(base), rest)))
 }
 
 /// The head of a declaration, its line, the name behind it, and what stands there, where an

@@ -5,17 +5,18 @@
 ghost use Rattle.std.specs.Prelude.{◌≤◌, ◌<◌, length, IfOk};
 ghost use Rattle.ck_base.specs.declared.limits.TheConstants.{MAX_NESTING};
 ghost use Rattle.parse_exprs.specs.Machine.{a_cond, a_declr, an_expr, brackets as some_brackets};
-ghost use Rattle.parse_exprs.specs.Machine.{chucks};
-ghost use Rattle.parse_exprs.specs.Machine.{postfix as a_postfix, sizes as some_sizes, some_exprs};
+ghost use Rattle.parse_exprs.specs.Machine.{arguments as some_arguments, chucks, declr_rest};
+ghost use Rattle.parse_exprs.specs.Machine.{new_rest, postfix as a_postfix, sizes as some_sizes};
+ghost use Rattle.parse_exprs.specs.Machine.{some_exprs};
 ghost use Rattle.parse_exprs.specs.Machine.{unary as a_unary};
-ghost use Rattle.parse_exprs.specs.Operands.{IsShallow, a_dur, a_level, all_closed, arguments_of};
+ghost use Rattle.parse_exprs.specs.Operands.{IsShallow, a_dur, a_level, all_closed};
 ghost use Rattle.parse_exprs.specs.Operands.{closed, led as is_led};
 ghost use Rattle.parse_exprs.specs.Operands.{optional, suffixed, tree_of};
 ghost use Rattle.parse_exprs.specs.Parts.{ReadsExpr, ReadsExprs, ReadsOpen, ReadsOperand, ReadsTo};
 ghost use Rattle.parse_exprs.specs.Reads.{ReadsPart};
 ghost use Rattle.parse_exprs.specs.Tokens.{a_mark};
 ghost use Rattle.ck_syntax.specs.Tree.{no_exprs, no_brackets};
-ghost use Rattle.ck_syntax.specs.View.{view_declr, view_option, brackets_of};
+ghost use Rattle.ck_syntax.specs.View.{view_declr, view_option, view_tail, brackets_of};
 
 use crate::ahead::{chuck, declaration, enter, lead, operator, start, suffix};
 use crate::fault::{Parsed, ParsedTo};
@@ -28,7 +29,7 @@ use crate::tokens::{eat_mark, expect_base, expect_mark, expect_name};
 use crate::type_name::type_name;
 use ck_base::List;
 use ck_lexer::{Mark, Token};
-use ck_syntax::{Bracket, Declarator, Expr};
+use ck_syntax::{Base, Bracket, Declarator, DeclaratorTail, Expr};
 use std::alloc::Global;
 
 /// `Expr`
@@ -70,8 +71,8 @@ pub fn operand<'a>(alloc: Global, depth: u32, tokens: &'a [Token]) -> Parsed<'a,
     ensures shallow { IfOk result (λ x. IsShallow x.0) }
 {
     if let Some((line, head, name, behind)) = declaration(alloc, depth, tokens)? {
-        let (brackets, rest) = brackets(alloc, depth, behind)?;
-        let declarator = Declarator { name, brackets };
+        let (tail, rest) = declarator_tail(alloc, depth, behind)?;
+        let declarator = Declarator { name, tail };
         let declared = Operand::Declaration {
             line,
             head,
@@ -122,8 +123,25 @@ pub fn declarator<'a>(alloc: Global, depth: u32, tokens: &'a [Token]) -> Parsed<
     ensures fewer { IfOk result (λ x. length x.1.now < length tokens.now) }
 {
     let (name, behind) = expect_name(alloc, tokens)?;
-    let (brackets, rest) = brackets(alloc, depth, behind)?;
-    Ok((Declarator { name, brackets }, rest))
+    let (tail, rest) = declarator_tail(alloc, depth, behind)?;
+    Ok((Declarator { name, tail }, rest))
+}
+
+/// What stands behind the name of a declarator.
+#[cycle(exprs)]
+fn declarator_tail<'a>(alloc: Global, depth: u32, tokens: &'a [Token]) -> Parsed<'a, DeclaratorTail>
+    requires { depth ≤ MAX_NESTING }
+    ensures reads { (name : _) → ReadsPart (declr_rest depth name) (view_tail name)
+        tokens.now result }
+    ensures fewer { IfOk result (λ x. length x.1.now ≤ length tokens.now) }
+{
+    if let Some((inside, behind)) = enter(depth, tokens, Mark::LeftParen)? {
+        let (arguments, rest) = arguments(alloc, inside, behind)?;
+        Ok((DeclaratorTail::Arguments(arguments), rest))
+    } else {
+        let (brackets, rest) = brackets(alloc, depth, tokens)?;
+        Ok((DeclaratorTail::Brackets(brackets), rest))
+    }
 }
 
 /// `('[' Expr? ']')*`
@@ -202,7 +220,7 @@ pub fn closed_exprs<'a>(
 #[cycle(exprs)]
 fn arguments<'a>(alloc: Global, depth: u32, tokens: &'a [Token]) -> Parsed<'a, List<Expr>>
     requires { depth ≤ MAX_NESTING }
-    ensures reads { ReadsExprs (arguments_of depth) tokens.now result }
+    ensures reads { ReadsExprs (some_arguments depth) tokens.now result }
     ensures fewer { IfOk result (λ x. length x.1.now < length tokens.now) }
 {
     if let Some(rest) = eat_mark(tokens, Mark::RightParen) {
@@ -227,6 +245,28 @@ fn sizes<'a>(alloc: Global, depth: u32, tokens: &'a [Token]) -> Parsed<'a, List<
         rest = end;
     }
     Ok((List::from_vec(all), rest))
+}
+
+/// What stands behind the base of a `new`.
+#[cycle(exprs)]
+fn object<'a>(
+    alloc: Global,
+    line: u32,
+    depth: u32,
+    base: Base,
+    tokens: &'a [Token],
+) -> Parsed<'a, Box<Expr>>
+    requires { depth ≤ MAX_NESTING }
+    ensures reads { ReadsExpr (new_rest depth line base) tokens.now result }
+    ensures fewer { IfOk result (λ x. length x.1.now ≤ length tokens.now) }
+{
+    if let Some((inside, behind)) = enter(depth, tokens, Mark::LeftParen)? {
+        let (arguments, rest) = arguments(alloc, inside, behind)?;
+        Ok((node::object_with(alloc, line, base, arguments)?, rest))
+    } else {
+        let (sizes, rest) = sizes(alloc, depth, tokens)?;
+        Ok((node::object(alloc, line, base, sizes)?, rest))
+    }
 }
 
 /// `Primary`
@@ -335,8 +375,8 @@ fn led<'a>(
         }
         Lead::New => {
             let (base, behind) = expect_base(alloc, tokens)?;
-            let (sizes, rest) = sizes(alloc, depth, behind)?;
-            Ok((node::object(alloc, line, base, sizes)?, rest, depth))
+            let (object, rest) = object(alloc, line, depth, base, behind)?;
+            Ok((object, rest, depth))
         }
         Lead::Spork => {
             let behind = expect_mark(tokens, Mark::Tilde)?;

@@ -164,6 +164,18 @@ pub fn object(alloc: Global, line: u32, base: Base, sizes: List<Expr>) -> Result
     node(alloc, line, ExprKind::New { base, sizes })
 }
 
+/// A new object, made with these arguments.
+pub fn object_with(
+    alloc: Global,
+    line: u32,
+    base: Base,
+    arguments: List<Expr>,
+) -> Result<Box<Expr>, Memory>
+    ensures { Makes (trees.new_with line base (exprs_of no_exprs arguments)) result }
+{
+    node(alloc, line, ExprKind::NewWith { base, arguments })
+}
+
 /// A declaration.
 pub fn declaration(
     alloc: Global,

@@ -16,6 +16,8 @@ pub enum Opening {
     New,
     Spork,
     Static,
+    /// `auto`: the base of a declaration.
+    Auto,
     Block,
     Empty,
     Print,

@@ -8,8 +8,8 @@ ghost use Rattle.parse_exprs.specs.Ahead.{GivesAtom};
 ghost use Rattle.parse_exprs.specs.Reads.{Agrees, Atoms, Deepens, Eats, Expects, ExpectsBase};
 ghost use Rattle.parse_exprs.specs.Reads.{ExpectsName, FindsChuck};
 ghost use Rattle.parse_exprs.specs.Reads.{FindsOperator, after, begins_declared, next_follow};
-ghost use Rattle.parse_exprs.specs.Tokens.{a_mark, a_word, follow, is_sign, level, mark_number};
-ghost use Rattle.parse_exprs.specs.Tokens.{opening, word_number};
+ghost use Rattle.parse_exprs.specs.Tokens.{a_construct, a_mark, a_word, follow, is_sign, level};
+ghost use Rattle.parse_exprs.specs.Tokens.{mark_number, opening, word_number};
 ghost use Rattle.ck_syntax.specs.View.{view_kind};
 ghost use Rattle.std.specs.Option.{option_map};
 
@@ -85,6 +85,30 @@ pub fn eat_word<'a>(tokens: &'a [Token], word: Word) -> Option<&'a [Token]>
         Some(rest)
     } else {
         None
+    }
+}
+
+fn is_construct(token: &Token) -> bool
+    ensures { result ≡ is_sign token.now.kind a_construct }
+{
+    match &token.kind {
+        TokenKind::Name(name) => name.bytes() == b"construct".as_slice(),
+        _ => false,
+    }
+}
+
+/// What stands behind the name of a constructor, which has to come next.
+pub fn expect_construct<'a>(tokens: &'a [Token]) -> Result<&'a [Token], Fault>
+    ensures token { Expects a_construct tokens.now result }
+    ensures fewer { IfOk result (λ rest. length rest.now < length tokens.now) }
+{
+    let Some((token, rest)) = first(tokens) else {
+        return Err(Fault::Syntax(0));
+    };
+    if is_construct(token) {
+        Ok(rest)
+    } else {
+        Err(Fault::Syntax(tokens.len()))
     }
 }
 
@@ -230,6 +254,7 @@ fn word_opening(line: u32, word: Word) -> Opening
         Word::New => Opening::New,
         Word::Spork => Opening::Spork,
         Word::Static => Opening::Static,
+        Word::Auto => Opening::Auto,
         Word::If => Opening::If,
         Word::While => Opening::While,
         Word::Until => Opening::Until,

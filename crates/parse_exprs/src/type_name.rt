@@ -1,14 +1,14 @@
 //! Types and the heads of declarations.
 ghost use Rattle.std.specs.Prelude.{◌≤◌, ◌<◌, length, IfOk};
 ghost use Rattle.ck_base.specs.declared.limits.TheConstants.{MAX_NESTING};
-ghost use Rattle.parse_exprs.specs.Machine.{pairs, a_type, declared};
+ghost use Rattle.parse_exprs.specs.Machine.{pairs, a_type, a_head_base, declared};
 ghost use Rattle.parse_exprs.specs.Reads.{Reads, ReadsPart};
 
 use crate::fault::{Fault, Parsed};
-use crate::tokens::{deeper, eat_mark, expect_base, expect_mark, expect_name};
+use crate::tokens::{deeper, eat_mark, eat_word, expect_base, expect_mark, expect_name};
 use ck_base::Text;
-use ck_lexer::{Mark, Token};
-use ck_syntax::TypeName;
+use ck_lexer::{Mark, Token, Word};
+use ck_syntax::{Base, TypeName};
 use std::alloc::Global;
 
 /// How many pairs of brackets come next.
@@ -36,6 +36,20 @@ pub fn type_name<'a>(alloc: Global, depth: u32, tokens: &'a [Token]) -> Parsed<'
     let (base, behind) = expect_base(alloc, tokens)?;
     let (brackets, rest) = bracket_pairs(depth, behind)?;
     Ok((TypeName { base, brackets }, rest))
+}
+
+/// The base that comes next, or `None` for `auto`.
+pub fn head_base<'a>(alloc: Global, depth: u32, tokens: &'a [Token]) -> Parsed<'a, Option<Base>>
+    requires { depth ≤ MAX_NESTING }
+    ensures reads { ReadsPart (a_head_base depth) (λ x. x) tokens.now result }
+    ensures fewer { IfOk result (λ x. length x.1.now < length tokens.now) }
+{
+    if let Some(rest) = eat_word(tokens, Word::Auto) {
+        Ok((None, rest))
+    } else {
+        let (base, rest) = expect_base(alloc, tokens)?;
+        Ok((Some(base), rest))
+    }
 }
 
 /// Whether `@` comes next, and the name behind it.

@@ -8,7 +8,7 @@ use Rattle.ck_typed.specs.Tree.{Program}
 use Rattle.type_table.specs.Answer.{gives}
 use Rattle.first_walk.specs.FirstWalk.{own_class, entered}
 use Rattle.type_table.specs.Table.{Table}
-use Rattle.first_walk.proofs.Below.{virtuals_are}
+use Rattle.first_walk.proofs.Below.{virtuals_are, maker_is}
 use Rattle.first_walk.proofs.DeclaredFacts.{file_declared}
 use Rattle.first_walk.proofs.EnteredFacts.{entered_facts, heads_are, new_table_is}
 use Rattle.first_walk.proofs.FieldFacts.{fields_in, extends}
@@ -35,6 +35,7 @@ IsSome c n h = (x : Head) × (h ≡ Some x)
 fun_has : (u : Table) (file : ℕ) (c : Option ℕ) (f : tree.Fun) → FunHolds IsSome u file c f
     → HasHead u file f
 fun_has u file c (tree.fun l s result n ps body) is = is
+fun_has u file c (tree.constructor l ps body) is = is
 
 members_have : (u : Table) (file c : ℕ) (ms : Members) → MembersHold IsSome u file c ms
     → MembersHaveHeads u file ms
@@ -67,6 +68,7 @@ class_laws t owners is =
       extends = extends t owners is;
       slots_extend = slots_extend t owners is;
       virtuals_are = virtuals_are t owners is;
+      maker_is = maker_is t owners is;
       member_is = member_is t owners is;
     }
 

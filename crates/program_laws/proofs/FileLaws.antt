@@ -7,10 +7,11 @@ use Rattle.first_walk.specs.FirstWalk.{entered}
 use Rattle.type_table.specs.Table.{Table, file_of, new_table}
 use Rattle.type_table.proofs.Ranges.{Each, Within}
 use Rattle.first_walk.proofs.TableFacts.{file_entries, heads_of, owners_of, IsTable, IsLater}
-use Rattle.program_laws.specs.Programs.{Walked, items_typed, file_funs}
+use Rattle.program_laws.specs.Programs.{Walked, items_typed, file_funs, settled_by}
 use Rattle.ck_typed.specs.WellFormed.{IsFineFun}
 use Rattle.program_laws.proofs.Parallel.{Zip, Matches}
-use Rattle.expr_laws.proofs.Premises.{Has}
+use Rattle.expr_laws.proofs.Premises.{Has, HasSettled, IsSettled}
+use Rattle.expr_laws.proofs.Settling.{Settles}
 use Rattle.program_laws.proofs.TableLaws.{ClassLaws, LaterLaws}
 
 -- a table, once one file more was entered
@@ -22,11 +23,14 @@ pub record IsEnteredFile (t : Table) (owners : List (Option ℕ)) (file : ℕ) (
   pub later : IsLater t u
   pub files : length u.files ≡ length t.files + 1
 
--- the functions of a file have the types of the table, and are well formed in each program that has
--- what the table names
+-- the functions of a file have the types of the table; what was settled in it had no kind before; and
+-- in each program that has what the table names and what was settled in the file they are well formed,
+-- and that is of kinds that values have
 pub record IsTypedFile (u : Table) (file : ℕ) (raw : tree.File) (w : Walked) : Type 0 where
   pub functions : Zip Matches (file_funs w) (file_entries u file raw)
-  pub fine : (p : Program) → Has p u → Each (IsFineFun p) (file_funs w)
+  pub settles : Settles u [] (settled_by w)
+  pub fine : (p : Program) → Has p u → Each (IsSettled p) (settled_by w)
+      → Each (IsFineFun p) (file_funs w) × Each (HasSettled p u) (settled_by w)
 
 -- all that the law of whole programs rests on
 pub record FileLaws : Type 0 where

@@ -1,13 +1,13 @@
 -- The functions of a file are fine, each where its statements are.
-use Rattle.std.proofs.Common.{◌≡◌, ℕ, zero, suc, ◌+◌, ◌<◌, ◌≤◌, Bool, true, false, not, ◌&&◌}
+use Rattle.std.proofs.Common.{◌≡◌, ℕ, zero, suc, ◌+◌, ◌<◌, ◌≤◌, Bool, true, false}
 use Rattle.std.proofs.Common.{if◌then◌else◌, List, [], ◌∷◌, ◌++◌, length, All, Option, Some, None}
-use Rattle.std.proofs.Common.{is_some, slice_get, sym, ap, subst, ◌∙◌, append_assoc, append-nil}
+use Rattle.std.proofs.Common.{slice_get, refl, sym, ap, subst, ◌∙◌, append_assoc, append-nil}
 use Rattle.std.proofs.Common.{le_refl, le_trans, zero-le, length-append, arith}
 use Rattle.std.specs.Str.{bytes_eq}
 use Rattle.ck_values.specs.declared.kind.Kind.{Kind}
 use Rattle.ck_values.specs.declared.kind.Kind.TheVariants.{Void, Null, One, Row, Grid}
 use Rattle.ck_syntax.specs.Tree as tree
-use Rattle.ck_syntax.specs.Tree.{Stmt, Stmts, Members, no_members, and_member, fun_member}
+use Rattle.ck_syntax.specs.Tree.{Params, Stmt, Stmts, Members, no_members, and_member, fun_member}
 use Rattle.ck_syntax.specs.Tree.{stmt_member, no_items, and_item, class_item, fun_item, stmt_item}
 use Rattle.ck_typed.specs.Tree as typed
 use Rattle.ck_typed.specs.Tree.{Program}
@@ -27,9 +27,9 @@ use Rattle.program_laws.specs.Programs.{fun_scope, count, with_params, fun_made,
 use Rattle.program_laws.specs.Programs.{fun_with, fun_typed, Walked, and_statement, and_fun}
 use Rattle.program_laws.specs.Programs.{and_member_typed, members_typed, class_funs, first_method}
 use Rattle.program_laws.specs.Programs.{class_typed, and_funs, and_item_typed, items_typed}
-use Rattle.program_laws.specs.Programs.{file_funs}
+use Rattle.program_laws.specs.Programs.{file_funs, settled_by}
 use Rattle.ck_typed.specs.Standing.{given}
-use Rattle.check_scope.specs.Scope.{Scope, new_scope, is_empty, with_block, declares_globals}
+use Rattle.check_scope.specs.Scope.{Scope, with_block, declares_globals}
 use Rattle.program_laws.specs.Statements.{Stated, AllStated, none_stated, and_stated, in_order}
 use Rattle.program_laws.specs.Statements.{statement, statements}
 use Rattle.ck_typed.specs.WellFormed.{IsValueKind, IsFine, AreFine, IsFineFun}
@@ -47,7 +47,11 @@ use Rattle.program_laws.proofs.Matching.{items_numbered}
 use Rattle.expr_laws.proofs.FineForms.{elem_there}
 use Rattle.expr_laws.proofs.Oks.{ok_then, ok_map}
 use Rattle.program_laws.proofs.Parallel.{this_of, Matches}
-use Rattle.expr_laws.proofs.Premises.{Ok, Has, IsClass, IsScope, Grows}
+use Rattle.expr_laws.proofs.Growing.{Keeps, keeps_refl, keeps_trans}
+use Rattle.expr_laws.proofs.Premises.{Ok, Has, HasSettled, IsSettled, Leads, Ends, IsClass, IsScope}
+use Rattle.expr_laws.proofs.Premises.{Grows}
+use Rattle.expr_laws.proofs.ScopeLaws.{within_grown, ends_before, each_within}
+use Rattle.program_laws.proofs.FineStatements.{block_is_local, nothing_settles}
 use Rattle.program_laws.proofs.StatedResults.{Returns, IsStated, AreStated}
 
 -- lists -----------------------------------------------------------------------------------------
@@ -131,16 +135,21 @@ fine_append p all result b (y ∷ xs) x are is = (are.0, fine_append p all resul
 
 module _ (p : Program) (t : Table) (o : Surroundings) (s : Scope) where
   pub none_are : IsScope t s → AreStated p t o s (none_stated s)
-  none_are scope = ((scope, grows_same s), λ all result returns within. tt)
+  none_are scope =
+      ((scope, grows_same s, λ all leads ends. ends), λ all result returns ends. tt)
 
   pub more_are : (all : AllStated) (x : Stated) → AreStated p t o s all → IsStated p t o all.scope x
       → AreStated p t o s (and_stated all x)
   more_are all x before is = (
-    (is.0.0, grows_trans s all.scope x.scope before.0.1 is.0.1),
-    λ locals result returns within. fine_append p locals result o.in_loop all.stmts x.stmt
-        (before.1 locals result returns
-        (within_trans all.scope.locals x.scope.locals locals is.0.1.locals within))
-        (is.1 locals result returns within),
+    (
+      is.0.0,
+      grows_trans s all.scope x.scope before.0.1 is.0.1,
+      λ locals leads ends. is.0.2 locals leads
+          (before.0.2 locals (within_grown all.scope x.scope locals is.0.1 leads) ends),
+    ),
+    λ locals result returns ends. fine_append p locals result o.in_loop all.stmts x.stmt
+        (before.1 locals result returns (ends_before p t all.scope x.scope locals is.0.1 ends))
+        (is.1 locals result returns ends),
   )
 
 -- functions -------------------------------------------------------------------------------------
@@ -151,84 +160,137 @@ module _ (p : Program) (t : Table) (has : Has p t) where
       (result : Kind) (l : ℕ) → AreStated p t (record { result = around; in_loop = false }) s all
       → Returns (record { result = around; in_loop = false }) (given result)
       → ResultIn (many t) result → params ≤ length s.locals
-      → IsFineFun p (fun_made params result l all)
-  made_is_fine around s all params result l are returns within few = record {
+      → Ends p t all.scope all.scope.locals → IsFineFun p (fun_made params result l all)
+  made_is_fine around s all params result l are returns within few ends = record {
     params = le_trans few (within_length s.locals all.scope.locals are.0.1.locals);
     locals =
         each_all (IsValueKind p.classes) all.scope.locals
         (each_map (ValueIn (many t)) (IsValueKind p.classes) all.scope.locals
-        (value_is p t has) are.0.0.kinds);
+        (value_is p t has) ends.kinds);
     result = result_is p t has result within;
-    body = are.1 all.scope.locals (given result) returns (within_same all.scope.locals);
+    body = are.1 all.scope.locals (given result) returns ends;
   }
+
+  -- what was settled is so in the program, and is of a kind that a value has
+  abbrev pub AreSettled : List (ℕ × Kind) → Type 0
+  AreSettled settled = Each (HasSettled p t) settled
+
+  -- all that a walk declared and settled is known
+  pub known_leads : (u : Scope) → AreSettled u.settled → Leads p u u.locals
+  known_leads u known =
+      record {
+        locals = within_same u.locals;
+        settled = each_map (HasSettled p t) (IsSettled p) u.settled (λ x is. is.0) known;
+      }
 
 -- what is proved of statements
 module _ (p : Program) (t : Table) (owners : List (Option ℕ)) (has : Has p t)
     (is : IsTable t owners)
-    (grow : (o : Surroundings) (s : Scope) (x : Stmt)
-    → Ok (λ (y : Stated). Grows s y.scope) (statement t o s x))
-    (grow_all : (o : Surroundings) (s : Scope) (xs : Stmts)
-    → Ok (λ (y : AllStated). Grows s y.scope) (statements t o s xs))
+    (keep : (o : Surroundings) (s : Scope) (x : Stmt)
+    → Ok (λ (y : Stated). Keeps t s y.scope) (statement t o s x))
+    (keep_all : (o : Surroundings) (s : Scope) (xs : Stmts)
+    → Ok (λ (y : AllStated). Keeps t s y.scope) (statements t o s xs))
     (statement_is : (o : Surroundings) (s : Scope) (x : Stmt) → IsScope t s
     → (declares_globals s ≡ true → StmtDeclared t s.file s.class x)
     → Ok (IsStated p t o s) (statement t o s x))
     (statements_are : (o : Surroundings) (s : Scope) (xs : Stmts) → IsScope t s
     → declares_globals s ≡ false → Ok (AreStated p t o s) (statements t o s xs))
     (file : ℕ) where
-  pub fun_is_fine : (class : Option ℕ) (n : ℕ) (f : tree.Fun) → IsClass t class → HasHead t file f
-      → fun_of t n ≡ (fun_entry t file class f).0 → Ok (IsFineFun p) (fun_typed t file class n f)
-  fun_is_fine class n (tree.fun l is_static result name ps body) within head same =
-      ok_then (λ u. Declares s types u × IsScope t u) (IsFineFun p) (with_params types s l ps)
-      (fun_with t n l body)
-      (ok_both (Declares s types) (IsScope t) (with_params types s l ps)
-      (params_declared types s l ps counted)
-      (params_are t types s l ps (omega (arith, counted)) (head_in t owners is n).0 scope))
-      (λ u right.
-      ok_then (AreStated p t (in_fun (fun_of t n).result) (with_block u)) (IsFineFun p)
-      (statements t (in_fun (fun_of t n).result) (with_block u) body)
+  grow : (o : Surroundings) (s : Scope) (x : Stmt)
+      → Ok (λ (y : Stated). Grows s y.scope) (statement t o s x)
+  grow o s x =
+      ok_map (λ (y : Stated). Keeps t s y.scope) (λ (y : Stated). Grows s y.scope) (statement t o s x)
+      (λ y keeps. keeps.0) (keep o s x)
+
+  grow_all : (o : Surroundings) (s : Scope) (xs : Stmts)
+      → Ok (λ (y : AllStated). Grows s y.scope) (statements t o s xs)
+  grow_all o s xs =
+      ok_map (λ (y : AllStated). Keeps t s y.scope) (λ (y : AllStated). Grows s y.scope)
+      (statements t o s xs) (λ y keeps. keeps.0) (keep_all o s xs)
+
+  -- a function is fine where what was settled before is known
+  abbrev FineAfter : List (ℕ × Kind) → typed.Fun → Type 0
+  FineAfter settled g = AreSettled p t has settled → IsFineFun p g
+
+  body_is_fine : (n l : ℕ) (body : Stmts) (u : Scope) → IsScope t u
+      → Each (ValueIn (many t)) u.locals → Ok (FineAfter u.settled) (fun_with t n l body u)
+  body_is_fine n l body u scope kinds =
+      let o : Surroundings = in_fun (fun_of t n).result in
+      let s : Scope = with_block u in
+      ok_then (λ y. AreStated p t o s y × Keeps t s y.scope) (FineAfter u.settled)
+      (statements t o s body)
       (λ all. gives (fun_made (length u.locals) (fun_of t n).result l all))
-      (statements_are (in_fun (fun_of t n).result) (with_block u) body (block_is t u right.1)
-      (no_globals u right.0)) (λ all are.
-      made_is_fine p t has (Some (fun_of t n).result) (with_block u) all (length u.locals)
-      (fun_of t n).result l are
-      (λ k known. let kinds : k ≡ (fun_of t n).result = cc in ap given kinds)
-      (head_in t owners is n).1 (le_refl (length u.locals))))
-    where
-      s : Scope
-      s = fun_scope file class n is_static
+      (ok_both (AreStated p t o s) (λ (y : AllStated). Keeps t s y.scope) (statements t o s body)
+      (statements_are o s body (block_is t u scope) (block_is_local u)) (keep_all o s body))
+      (λ all are known.
+      let settled : AreSettled p t has all.scope.settled =
+      subst (AreSettled p t has) (sym (are.1.2 (nothing_settles u))) known in
+      made_is_fine p t has (Some (fun_of t n).result) s all (length u.locals)
+      (fun_of t n).result l are.0
+      (λ k same. let kinds : k ≡ (fun_of t n).result = cc in ap given kinds)
+      (head_in t owners is n).1 (le_refl (length u.locals))
+      (are.0.0.2 all.scope.locals (known_leads p t has all.scope settled)
+      (record { locals = are.0.0.1.locals; kinds = kinds; settled = known })))
 
-      begins : Declares (new_scope file class (Some n)) (this_of (owner class is_static)) s
-      begins = fun_scope_declares file class n is_static
+  this_values : (o : Option ℕ) → IsClass t o → Each (ValueIn (many t)) (this_of o)
+  this_values None within = tt
+  this_values (Some c) within = (within, tt)
 
-      static_is : head.0.is_static ≡ is_static
-      static_is =
-          (head_parts is_static (param_kinds t file ps)
-          (result_kind (named_by t file result.base) result.brackets) head.0 head.1).2
+  owner_in : (class : Option ℕ) (is_static : Bool) → IsClass t class
+      → IsClass t (owner class is_static)
+  owner_in class true within = tt
+  owner_in class false within = within
 
-      head_is : fun_of t n ≡ head.0
-      head_is = same ∙ ap or_no_head head.1
+  begun_is_fine : (n l : ℕ) (ps : Params) (body : Stmts) (s : Scope) (o : Option ℕ)
+      (settled : List (ℕ × Kind)) → IsScope t s → s.locals ≡ this_of o → s.settled ≡ settled
+      → IsClass t o → count ps ≡ length (fun_of t n).params → Ok (FineAfter settled)
+      (and_then (with_params (fun_of t n).params s l ps) (λ u. fun_with t n l body u))
+  begun_is_fine n l ps body s o settled scope begins same within counted =
+      let types : List Kind = (fun_of t n).params in
+      ok_then (λ u. Declares s types u × IsScope t u) (FineAfter settled) (with_params types s l ps)
+      (λ u. fun_with t n l body u)
+      (ok_both (Declares s types) (IsScope t) (with_params types s l ps)
+      (params_declared types s l ps counted) (params_are t types s l ps scope))
+      (λ u right.
+      ok_map (FineAfter u.settled) (FineAfter settled) (fun_with t n l body u)
+      (λ g fine known. fine (subst (AreSettled p t has) (sym (right.0.settled ∙ same)) known))
+      (body_is_fine n l body u right.1
+      (subst (Each (ValueIn (many t)))
+      (sym (right.0.locals ∙ ap (λ ks. ks ++ types) begins))
+      (each_append (ValueIn (many t)) (this_of o) types (this_values o within)
+      (head_in t owners is n).0))))
 
-      types : List Kind
-      types = (fun_of t n).params
-
-      counted : count ps ≡ length types
-      counted = fun_count t file n (tree.fun l is_static result name ps body) head head_is
-
-      scope : IsScope t s
-      scope =
-          fun_scope_is t file class n is_static within
-          (ap (λ (h : Head). h.is_static) head_is ∙ static_is)
-
-      no_globals : (u : Scope) → Declares s types u
-          → declares_globals (with_block u) ≡ false
-      no_globals u declares =
-          ap (λ f. not (is_some f) && is_empty (u.blocks ++ [] ∷ [])) (declares.fun ∙ begins.fun)
+  pub fun_is_fine : (class : Option ℕ) (n : ℕ) (settled : List (ℕ × Kind)) (f : tree.Fun)
+      → IsClass t class → HasHead t file f → fun_of t n ≡ (fun_entry t file class f).0
+      → Ok (FineAfter settled) (fun_typed t file class n settled f)
+  fun_is_fine class n settled (tree.fun l is_static result name ps body) within head same =
+      let head_is : fun_of t n ≡ head.0 = same ∙ ap or_no_head head.1 in
+      let s = fun_scope_declares file class n is_static settled in
+      begun_is_fine n l ps body (fun_scope file class n is_static settled) (owner class is_static)
+      settled
+      (fun_scope_is t settled file class n is_static within
+      (ap (λ (h : Head). h.is_static) head_is
+      ∙ (head_parts is_static (param_kinds t file ps)
+      (result_kind (named_by t file result.base) result.brackets) head.0 head.1).2))
+      s.locals s.settled (owner_in class is_static within)
+      (fun_count t file n (tree.fun l is_static result name ps body) head head_is)
+  fun_is_fine class n settled (tree.constructor l ps body) within head same =
+      let head_is : fun_of t n ≡ head.0 = same ∙ ap or_no_head head.1 in
+      let s = fun_scope_declares file class n false settled in
+      begun_is_fine n l ps body (fun_scope file class n false settled) class settled
+      (fun_scope_is t settled file class n false within
+      (ap (λ (h : Head). h.is_static) head_is
+      ∙ (head_parts false (param_kinds t file ps) (Some Void) head.0 head.1).2))
+      s.locals s.settled within
+      (fun_count t file n (tree.constructor l ps body) head head_is)
 
   -- walks -------------------------------------------------------------------------------------
 
   -- a walk so far is right
   abbrev pub IsRight : (begin : Scope) → Walked → Type 0
-  IsRight begin w = AreStated p t in_no_fun begin w.stated × Each (IsFineFun p) w.funs
+  IsRight begin w =
+      AreStated p t in_no_fun begin w.stated × Keeps t begin w.stated.scope
+      × (AreSettled p t has (settled_by w) → Each (IsFineFun p) w.funs)
 
   pub declared_in : (begin now : Scope) (x : Stmt) → Grows begin now
       → StmtDeclared t begin.file begin.class x → StmtDeclared t now.file now.class x
@@ -240,83 +302,126 @@ module _ (p : Program) (t : Table) (owners : List (Option ℕ)) (has : Has p t)
       → StmtDeclared t begin.file begin.class x → IsRight begin w
       → Ok (IsRight begin) (and_statement t w x)
   statement_right begin w x declared right =
-      ok_then (IsStated p t in_no_fun w.stated.scope) (IsRight begin)
-      (statement t in_no_fun w.stated.scope x)
+      let u : Scope = w.stated.scope in
+      ok_then (λ y. IsStated p t in_no_fun u y × Keeps t u y.scope) (IsRight begin)
+      (statement t in_no_fun u x)
       (λ y. gives (record w { stated = and_stated w.stated y }))
-      (statement_is in_no_fun w.stated.scope x right.0.0.0
-      (λ _. declared_in begin w.stated.scope x right.0.0.1 declared))
-      (λ y stated. (more_are p t in_no_fun begin w.stated y right.0 stated, right.1))
+      (ok_both (IsStated p t in_no_fun u) (λ (y : Stated). Keeps t u y.scope)
+      (statement t in_no_fun u x)
+      (statement_is in_no_fun u x right.0.0.0
+      (λ _. declared_in begin u x right.0.0.1 declared)) (keep in_no_fun u x))
+      (λ y stated. (
+        more_are p t in_no_fun begin w.stated y right.0 stated.0,
+        keeps_trans begin u y.scope right.1 stated.1,
+        λ known. right.2
+            (each_within (HasSettled p t) u.settled y.scope.settled stated.1.0.settled known),
+      ))
 
   pub fun_right : (begin : Scope) (es : List Entry) (w : Walked) (class : Option ℕ) (first : ℕ)
       (f : tree.Fun) → IsClass t class → HasHead t file f
       → Numbered t first (es ++ fun_entry t file class f ∷ []) → Walks begin es w → IsRight begin w
-      → Ok (IsRight begin) (and_then (fun_typed t file class (first + length w.funs) f)
+      → Ok (IsRight begin)
+      (and_then (fun_typed t file class (first + length w.funs) (settled_by w) f)
       (λ g. gives (and_fun w g)))
   fun_right begin es w class first f within head numbered walks right =
-      ok_then (IsFineFun p) (IsRight begin) (fun_typed t file class (first + length w.funs) f)
+      ok_then (FineAfter (settled_by w)) (IsRight begin)
+      (fun_typed t file class (first + length w.funs) (settled_by w) f)
       (λ g. gives (and_fun w g))
-      (fun_is_fine class (first + length w.funs) f within head
+      (fun_is_fine class (first + length w.funs) (settled_by w) f within head
       (next_is t file first es (fun_entry t file class f) w.funs numbered walks.1))
-      (λ g fine. (right.0, each_append (IsFineFun p) w.funs (g ∷ []) right.1 (fine, tt)))
+      (λ g fine. (
+        right.0,
+        right.1,
+        λ known. each_append (IsFineFun p) w.funs (g ∷ []) (right.2 known) (fine known, tt),
+      ))
 
   -- the members of a class
-  pub members_right : (c first : ℕ) (ms : Members) → c < many t → MembersHaveHeads t file ms
+  pub members_right : (c first : ℕ) (settled : List (ℕ × Kind)) (ms : Members) → c < many t
+      → MembersHaveHeads t file ms
       → Numbered t first (member_entries t file c ms) → MembersDeclared t file c ms
-      → Ok (IsRight (class_scope file c)) (members_typed t file c first ms)
-  members_right c first no_members within heads numbered declared =
-      (none_are p t in_no_fun (class_scope file c) (class_scope_is t file c within), tt)
-  members_right c first (and_member ms (stmt_member x)) within heads numbered declared =
-      let begin : Scope = class_scope file c in
-      ok_then (IsRight begin) (IsRight begin) (members_typed t file c first ms)
-      (λ w. and_statement t w x) (members_right c first ms within heads numbered declared.0)
+      → Ok (IsRight (class_scope file c settled)) (members_typed t file c first settled ms)
+  members_right c first settled no_members within heads numbered declared =
+      let begin : Scope = class_scope file c settled in (
+        none_are p t in_no_fun begin (class_scope_is t settled file c within),
+        keeps_refl begin,
+        λ known. tt,
+      )
+  members_right c first settled (and_member ms (stmt_member x)) within heads numbered declared =
+      let begin : Scope = class_scope file c settled in
+      ok_then (IsRight begin) (IsRight begin) (members_typed t file c first settled ms)
+      (λ w. and_statement t w x) (members_right c first settled ms within heads numbered declared.0)
       (λ w right.
       statement_right begin w x declared.1 right)
-  members_right c first (and_member ms (fun_member f)) within heads numbered declared =
-      let begin : Scope = class_scope file c in
+  members_right c first settled (and_member ms (fun_member f)) within heads numbered declared =
+      let begin : Scope = class_scope file c settled in
       let es : List Entry = member_entries t file c ms in
       let before : Numbered t first es =
       numbered_front t first es (fun_entry t file (Some c) f ∷ []) numbered in
       ok_then (λ w. Walks begin es w × IsRight begin w) (IsRight begin)
-      (members_typed t file c first ms) (λ w. and_member_typed t file c first w (fun_member f))
-      (ok_both (Walks begin es) (IsRight begin) (members_typed t file c first ms)
-      (members_walk t grow grow_all file c first ms heads.0 before)
-      (members_right c first ms within heads.0 before declared)) (λ w so_far.
+      (members_typed t file c first settled ms)
+      (λ w. and_member_typed t file c first w (fun_member f))
+      (ok_both (Walks begin es) (IsRight begin) (members_typed t file c first settled ms)
+      (members_walk t grow grow_all file c first settled ms heads.0 before)
+      (members_right c first settled ms within heads.0 before declared)) (λ w so_far.
       fun_right begin es w (Some c) first f within heads.1 numbered so_far.0 so_far.1)
 
-  pub class_funs_fine : (b : Bool) (l c : ℕ) (w : Walked) → IsRight (class_scope file c) w
+  pub class_funs_fine : (b : Bool) (l c : ℕ) (settled : List (ℕ × Kind)) (w : Walked) → c < many t
+      → IsRight (class_scope file c settled) w → AreSettled p t has settled
       → Each (IsFineFun p) (class_funs b l w)
-  class_funs_fine true l c w right = (
-    made_is_fine p t has None (class_scope file c) w.stated 1 Void l right.0
-        (λ k known. absurd (cc)) tt (le_refl 1),
-    right.1,
-  )
-  class_funs_fine false l c w right = right.1
+  class_funs_fine b l c settled w within right known =
+      go b (subst (AreSettled p t has) (sym (right.1.2 refl)) known)
+    where
+      go : (b : Bool) → AreSettled p t has (settled_by w) → Each (IsFineFun p) (class_funs b l w)
+      go true after = (
+        made_is_fine p t has None (class_scope file c settled) w.stated 1 Void l right.0
+            (λ k same. absurd (cc)) tt (le_refl 1)
+            (right.0.0.2 w.stated.scope.locals (known_leads p t has w.stated.scope after)
+            (record {
+              locals = right.0.0.1.locals;
+              kinds = (within, tt);
+              settled = known;
+            })),
+        right.2 after,
+      )
+      go false after = right.2 after
 
-  pub class_is_fine : (first : ℕ) (x : tree.Class) → ItemHasHeads t file (class_item x)
+  -- functions are fine where what was settled before is known
+  abbrev AllFineAfter : List (ℕ × Kind) → List typed.Fun → Type 0
+  AllFineAfter settled fs = AreSettled p t has settled → Each (IsFineFun p) fs
+
+  pub class_is_fine : (first : ℕ) (settled : List (ℕ × Kind)) (x : tree.Class)
+      → ItemHasHeads t file (class_item x)
       → Numbered t first (item_entries t file (class_item x)) → ItemDeclared t file (class_item x)
-      → Ok (Each (IsFineFun p)) (class_typed t file first x)
-  class_is_fine first (tree.class l is_public n parent ms) heads numbered declared =
+      → Ok (AllFineAfter settled) (class_typed t file first settled x)
+  class_is_fine first settled (tree.class l is_public n parent ms) heads numbered declared =
       let c : ℕ = own_class t file n in
       let b : Bool = has_statement ms in
-      ok_then (IsRight (class_scope file c)) (Each (IsFineFun p))
-      (members_typed t file c (first_method b first) ms) (λ w. gives (class_funs b l w))
-      (members_right c (first_method b first) ms (own_class_in t owners is file n) heads
+      let within : c < many t = own_class_in t owners is file n in
+      ok_then (IsRight (class_scope file c settled)) (AllFineAfter settled)
+      (members_typed t file c (first_method b first) settled ms) (λ w. gives (class_funs b l w))
+      (members_right c (first_method b first) settled ms within heads
       (methods_numbered t file b c first ms numbered) declared)
-      (λ w right. class_funs_fine b l c w right)
+      (λ w right. class_funs_fine b l c settled w within right)
 
   pub class_right : (begin : Scope) (es : List Entry) (w : Walked) (first : ℕ) (x : tree.Class)
       → ItemHasHeads t file (class_item x)
       → Numbered t first (es ++ item_entries t file (class_item x))
       → ItemDeclared t file (class_item x) → Walks begin es w → IsRight begin w
-      → Ok (IsRight begin) (and_then (class_typed t file (first + length w.funs) x)
+      → Ok (IsRight begin)
+      (and_then (class_typed t file (first + length w.funs) (settled_by w) x)
       (λ fs. gives (and_funs w fs)))
   class_right begin es w first x heads numbered declared walks right =
-      ok_then (Each (IsFineFun p)) (IsRight begin) (class_typed t file (first + length w.funs) x)
+      ok_then (AllFineAfter (settled_by w)) (IsRight begin)
+      (class_typed t file (first + length w.funs) (settled_by w) x)
       (λ fs. gives (and_funs w fs))
-      (class_is_fine (first + length w.funs) x heads
+      (class_is_fine (first + length w.funs) (settled_by w) x heads
       (rw (zip_length Matches w.funs es walks.1)
       (numbered_rest t first es (item_entries t file (class_item x)) numbered)) declared)
-      (λ fs fine. (right.0, each_append (IsFineFun p) w.funs fs right.1 fine))
+      (λ fs fine. (
+        right.0,
+        right.1,
+        λ known. each_append (IsFineFun p) w.funs fs (right.2 known) (fine known),
+      ))
 
   -- the items of a file
   pub item_right : (es : List Entry) (w : Walked) (x : tree.Item) → ItemHasHeads t file x
@@ -335,8 +440,11 @@ module _ (p : Program) (t : Table) (owners : List (Option ℕ)) (has : Has p t)
   pub items_right : (raw : tree.File) → FileHasHeads t file raw
       → Numbered t ((file_of t file).main + 1) (items_entries t file raw) → FileDeclared t file raw
       → Ok (IsRight (file_scope file)) (items_typed t file raw)
-  items_right no_items heads numbered declared =
-      (none_are p t in_no_fun (file_scope file) (file_scope_is t file), tt)
+  items_right no_items heads numbered declared = (
+    none_are p t in_no_fun (file_scope file) (file_scope_is t file),
+    keeps_refl (file_scope file),
+    λ known. tt,
+  )
   items_right (and_item xs x) heads numbered declared =
       let es : List Entry = items_entries t file xs in
       let before : Numbered t ((file_of t file).main + 1) es =
@@ -348,19 +456,33 @@ module _ (p : Program) (t : Table) (owners : List (Option ℕ)) (has : Has p t)
       (items_right xs heads.0 before declared.0)) (λ w so_far.
       item_right es w x heads.1 numbered declared.1 so_far.0 so_far.1)
 
-  -- all functions of a file are fine
+  -- all functions of a file are fine where the program has what was settled, and that is of a kind
+  -- that a value has
   pub items_are_fine : (raw : tree.File) (before : List Head) (n : ℕ) → length before ≡ n
       → t.funs ≡ before ++ heads_of (file_entries t file raw) → (file_of t file).main ≡ n
       → FileHasHeads t file raw
       → FileDeclared t file raw
-      → Ok (λ w. Each (IsFineFun p) (file_funs w)) (items_typed t file raw)
+      → Ok (λ w. Each (IsSettled p) (settled_by w)
+      → Each (IsFineFun p) (file_funs w) × AreSettled p t has (settled_by w)) (items_typed t file raw)
   items_are_fine raw before n count are main heads declared =
-      ok_map (IsRight (file_scope file)) (λ w. Each (IsFineFun p) (file_funs w))
-      (items_typed t file raw)
-      (λ w right. (
-        made_is_fine p t has None (file_scope file) w.stated 0 Void 1 right.0
-            (λ k known. absurd (cc)) tt zero-le,
-        right.1,
-      ))
+      ok_map (IsRight (file_scope file))
+      (λ w. Each (IsSettled p) (settled_by w)
+      → Each (IsFineFun p) (file_funs w) × AreSettled p t has (settled_by w))
+      (items_typed t file raw) fine
       (items_right raw heads (items_numbered t file raw
       (file_numbered t file raw before n count are main)) declared)
+    where
+      fine : (w : Walked) → IsRight (file_scope file) w → Each (IsSettled p) (settled_by w)
+          → Each (IsFineFun p) (file_funs w) × AreSettled p t has (settled_by w)
+      fine w right settled =
+          let u : Scope = w.stated.scope in
+          let ends : Ends p t u u.locals =
+          right.0.0.2 u.locals (record { locals = within_same u.locals; settled = settled })
+          (record { locals = right.0.0.1.locals; kinds = tt; settled = tt }) in (
+            (
+              made_is_fine p t has None (file_scope file) w.stated 0 Void 1 right.0
+                  (λ k known. absurd (cc)) tt zero-le ends,
+              right.2 ends.settled,
+            ),
+            ends.settled,
+          )

@@ -8,9 +8,10 @@ use Rattle.ck_values.specs.declared.kind.Elem.TheVariants as elem
 use Rattle.ck_values.specs.declared.kind.Kind.{Kind}
 use Rattle.ck_values.specs.declared.kind.Kind.TheVariants.{Void, One}
 use Rattle.ck_values.specs.declared.trap.Place.{Place}
+use Rattle.ck_syntax.specs.declared.declaration.Base.{Base}
 use Rattle.ck_syntax.specs.declared.declaration.DeclHead.{DeclHead}
 use Rattle.ck_syntax.specs.Tree as tree
-use Rattle.ck_syntax.specs.Tree.{Expr, expr_line, Declrs, no_declrs, and_declr, declr, Stmt, Stmts}
+use Rattle.ck_syntax.specs.Tree.{Name, Expr, expr_line, Declrs, no_declrs, and_declr, Declr, Stmt, Stmts}
 use Rattle.ck_syntax.specs.Tree.{no_stmts, and_stmt}
 use Rattle.ck_typed.specs.declared.operation.Leaf.TheVariants as leaf
 use Rattle.ck_typed.specs.Tree as typed
@@ -20,30 +21,36 @@ use Rattle.type_table.specs.Answer.{Answer, gives, refused, and_then, wrong}
 use Rattle.type_table.specs.Table.{Table}
 use Rattle.type_table.proofs.Declared.{Declared}
 use Rattle.first_walk.proofs.DeclaredFiles.{ListDeclared, StmtDeclared}
-use Rattle.type_table.proofs.Ranges.{Each, Within}
+use Rattle.type_table.proofs.Ranges.{Each, ValueIn, many}
 use Rattle.program_laws.specs.declared.surroundings.Surroundings.{Surroundings}
 use Rattle.check_scope.specs.Expressions as e
 use Rattle.check_scope.specs.Expressions.{Valued, AllValued, typing, values, is_int, meaning}
 use Rattle.check_scope.specs.Expressions.{value_of}
-use Rattle.check_scope.specs.Denotations.{Typed}
+use Rattle.check_scope.specs.Denotations.{Typed, is_void}
 use Rattle.ck_typed.specs.Standing.{given}
 use Rattle.check_scope.specs.Scope.{Scope, front, is_empty, place, with_block, without_block}
-use Rattle.check_scope.specs.Scope.{declares_globals}
+use Rattle.check_scope.specs.Scope.{with_local, declares_globals, settles}
 use Rattle.program_laws.specs.Statements.{Stated, AllStated, and_stated, in_order, block_of}
-use Rattle.program_laws.specs.Statements.{left, closed, int_at, condition, simple, declarations, is_void}
+use Rattle.program_laws.specs.Statements.{left, closed, int_at, condition, simple, declarations}
 use Rattle.program_laws.specs.Statements.{exprs, kinds, printed, in_loop_only, returned, bare_return}
 use Rattle.program_laws.specs.Statements.{return_meaning, Tested, tested, for_test, for_step}
-use Rattle.program_laws.specs.Statements.{for_made, looped, statement, statements}
+use Rattle.program_laws.specs.Statements.{for_made, item_kind, local_item, widens, looped}
+use Rattle.program_laws.specs.Statements.{statement, statements}
 use Rattle.ck_typed.specs.WellFormed.{IsNamedKind, HaveKinds, IsFine, AreFine}
-use Rattle.expr_laws.proofs.Growing.{Keeps, keeps_refl, keeps_trans, same_globals}
+use Rattle.expr_laws.proofs.FineDeclarations.{ok_all}
+use Rattle.expr_laws.proofs.Growing.{Keeps, same_globals, local_keeps}
 use Rattle.expr_laws.proofs.FineForms.{kind_there}
-use Rattle.expr_laws.proofs.FineMeanings.{Behind, V, A, value_of_is, meaning_is, values_are}
+use Rattle.expr_laws.proofs.FineMeanings.{Follows, follows_refl, follows_trans, Behind, V, A}
+use Rattle.expr_laws.proofs.FineMeanings.{value_of_is, meaning_is, values_are}
 use Rattle.expr_laws.proofs.FineMeanings.{moved}
 use Rattle.expr_laws.proofs.Oks.{ok_then, ok_if}
-use Rattle.expr_laws.proofs.Premises.{Ok, Has, IsScope, Valued as Supplies, IsValue}
+use Rattle.expr_laws.proofs.Premises.{Ends, Ok, Has, IsScope, Valued as Supplies, IsValue}
 use Rattle.program_laws.proofs.Found.{all_of}
+use Rattle.program_laws.proofs.FineItems.{TakesItems, local_item_is, items_bound}
 use Rattle.program_laws.proofs.StatedResults.{Returns}
-use Rattle.expr_laws.proofs.ScopeLaws.{within_grown, with_block_is, with_block_grows}
+use Rattle.expr_laws.proofs.ScopeLaws.{ends_before, leads_of, local_ends, same_ends}
+use Rattle.expr_laws.proofs.ScopeLaws.{new_local, with_block_is, with_local_is, with_local_grows}
+use Rattle.expr_laws.proofs.ScopeLaws.{with_block_grows}
 use Rattle.expr_laws.proofs.ScopeLaws.{without_block_is, without_block_grows, grows_trans}
 use Rattle.expr_laws.proofs.Standing.{taken}
 use Rattle.expr_laws.proofs.FineValues.{int_valued}
@@ -59,14 +66,6 @@ one_block_less [] = refl
 one_block_less (x ∷ []) = refl
 one_block_less (x ∷ y ∷ rest) = ap suc (one_block_less (y ∷ rest)) ∙ omega arith
 
--- a block that was opened and closed
-pub block_keeps : (t : Table) (s u : Scope) → Keeps (with_block s) u → Keeps s (without_block u)
-block_keeps t s u keeps = (
-  grows_trans s (with_block s) (without_block u) (with_block_grows t s)
-      (grows_trans (with_block s) u (without_block u) keeps.0 (without_block_grows t u)),
-  omega (arith, one_block_less u.blocks, keeps.1, one_block_more s.blocks []),
-)
-
 not_empty : {X : Type 0} (xs : List X) (x : X) → is_empty (xs ++ x ∷ []) ≡ false
 not_empty [] x = refl
 not_empty (y ∷ ys) x = refl
@@ -79,35 +78,64 @@ block_is_local s = go (not (is_some s.fun)) (is_empty (with_block s).blocks) (no
     go true b is = is
     go false b is = refl
 
+-- so no file variable is settled there
+pub nothing_settles : (s : Scope) → settles (with_block s) ≡ false
+nothing_settles s = ap (λ b. b && not (is_some s.class)) (block_is_local s)
+
+-- a block that was opened and closed
+pub block_keeps : (t : Table) (s u : Scope) → Keeps t (with_block s) u → Keeps t s (without_block u)
+block_keeps t s u keeps = (
+  grows_trans s (with_block s) (without_block u) (with_block_grows t s)
+      (grows_trans (with_block s) u (without_block u) keeps.0 (without_block_grows t u)),
+  omega (arith, one_block_less u.blocks, keeps.1, one_block_more s.blocks []),
+  λ none. keeps.2 (nothing_settles s),
+  keeps.3,
+)
+
+-- and what is known of the scope goes on
+pub block_follows : (p : Program) (t : Table) (s u : Scope) → Follows p t (with_block s) u
+    → Follows p t s (without_block u)
+block_follows p t s u follows = (
+  block_keeps t s u follows.0,
+  λ all leads ends.
+      same_ends p t u (without_block u) all refl refl
+      (follows.1 all (record { locals = leads.locals; settled = leads.settled })
+      (same_ends p t s (with_block s) all refl refl ends)),
+)
+
 module _ (p : Program) (t : Table) where
   -- a statement, several, and a condition
   abbrev pub S : Surroundings → Scope → Stated → Type 0
   S o s y =
       Behind p t s y.scope
-      × ((all : List Kind) (result : Kind) → Returns o result → Within y.scope.locals all
+      × ((all : List Kind) (result : Kind) → Returns o result → Ends p t y.scope all
       → IsFine p all result o.in_loop y.stmt)
 
   abbrev pub Ss : Surroundings → Scope → AllStated → Type 0
   Ss o s ys =
       Behind p t s ys.scope
-      × ((all : List Kind) (result : Kind) → Returns o result → Within ys.scope.locals all
+      × ((all : List Kind) (result : Kind) → Returns o result → Ends p t ys.scope all
       → AreFine p all result o.in_loop (in_order ys.stmts))
 
   abbrev Test : Scope → Valued → Type 0
   Test s x =
       Behind p t s x.scope
-      × ((all : List Kind) → Within x.scope.locals all → Supplies p t all x.typed.expr (One elem.Int))
+      × ((all : List Kind) → Ends p t x.scope all → Supplies p t all x.typed.expr (One elem.Int))
 
   -- from one scope to the next
-  later : (o : Surroundings) (s u : Scope) (a : Answer Stated) → Keeps s u → Ok (S o u) a → Ok (S o s) a
-  later o s u (gives y) keeps is = ((is.0.0, keeps_trans s u y.scope keeps is.0.1), is.1)
+  later : (o : Surroundings) (s u : Scope) (a : Answer Stated) → Follows p t s u → Ok (S o u) a → Ok (S o s) a
+  later o s u (gives y) keeps is = ((is.0.0, follows_trans p t s u y.scope keeps is.0.1), is.1)
   later o s u (refused why) keeps is = tt
 
   -- behind a block
   left_is : (o : Surroundings) (s : Scope) (x : typed.Stmt) (u : Scope) → Behind p t (with_block s) u
-      → ((all : List Kind) (result : Kind) → Returns o result → Within u.locals all
+      → ((all : List Kind) (result : Kind) → Returns o result → Ends p t u all
       → IsFine p all result o.in_loop x) → S o s (left x u)
-  left_is o s x u behind fine = ((without_block_is t u behind.0, block_keeps t s u behind.1), fine)
+  left_is o s x u behind fine = (
+    (without_block_is t u behind.0, block_follows p t s u behind.1),
+    λ all result returns ends.
+        fine all result returns (same_ends p t (without_block u) u all refl refl ends),
+  )
 
   closed_is : (o : Surroundings) (s : Scope) (a : Answer Stated) → Ok (S o (with_block s)) a
       → Ok (S o s) (closed a)
@@ -124,9 +152,9 @@ module _ (p : Program) (t : Table) where
   and_stated_is : (o : Surroundings) (s : Scope) (all : AllStated) (y : Stated) → Ss o s all
       → S o all.scope y → Ss o s (and_stated all y)
   and_stated_is o s all y are is = (
-    (is.0.0, keeps_trans s all.scope y.scope are.0.1 is.0.1),
+    (is.0.0, follows_trans p t s all.scope y.scope are.0.1 is.0.1),
     λ every result returns within. more_fine every result o.in_loop all.stmts y.stmt
-        (are.1 every result returns (within_grown all.scope y.scope every is.0.1.0 within))
+        (are.1 every result returns (ends_before p t all.scope y.scope every is.0.1.0.0 within))
         (is.1 every result returns within),
   )
 
@@ -137,7 +165,7 @@ module _ (p : Program) (t : Table) where
   jump_is o s l made scope fine =
       ok_if (S o s) o.in_loop _ _
       (λ is. (
-        (scope, keeps_refl s),
+        (scope, follows_refl p t s),
         λ all result returns within. fine all result (place s l) is,
       )) (λ is. tt)
 
@@ -175,17 +203,17 @@ module _ (p : Program) (t : Table) (has : Has p t) where
       → (declares_globals s ≡ true → ListDeclared t s.file s.class h ds)
       → Ok (Ss p t o s) (declarations t s l h ds)
   declarations_are o s l h no_declrs scope known =
-      ((scope, keeps_refl s), λ all result returns within. tt)
-  declarations_are o s l h (and_declr ds (declr n bs)) scope known =
+      ((scope, follows_refl p t s), λ all result returns within. tt)
+  declarations_are o s l h (and_declr ds d) scope known =
       ok_then (Ss p t o s) (Ss p t o s) (declarations t s l h ds)
-      (λ all. and_then (typing t all.scope (tree.declare l h (declr n bs)))
+      (λ all. and_then (typing t all.scope (tree.declare l h d))
       (λ x. gives (and_stated all (simple l x))))
       (declarations_are o s l h ds scope (λ is. (known is).0))
       (λ all are. ok_then (V p t all.scope) (Ss p t o s)
-      (typing t all.scope (tree.declare l h (declr n bs)))
+      (typing t all.scope (tree.declare l h d))
       (λ x. gives (and_stated all (simple l x)))
-      (typing_is all.scope (tree.declare l h (declr n bs)) are.0.0
-      (moved (λ f c. Declared t f c (tree.declare l h (declr n bs))) s all.scope are.0.1
+      (typing_is all.scope (tree.declare l h d) are.0.0
+      (moved p t (λ f c. Declared t f c (tree.declare l h d)) s all.scope are.0.1
       (λ is. ((known is).1, (known is).2))))
       (λ x is. and_stated_is p t o s all (simple l x) are (simple_is o all.scope l x is)))
 
@@ -246,7 +274,7 @@ module _ (p : Program) (t : Table) (has : Has p t) where
   bare_is : (o : Surroundings) (s : Scope) (l : ℕ) (r : Option Kind) → o.result ≡ r → IsScope t s
       → Ok (S p t o s) (bare_return s l r)
   bare_is o s l (Some Void) same scope = (
-    (scope, keeps_refl s),
+    (scope, follows_refl p t s),
     λ all result returns within.
         subst (λ j. Supplies p t all (typed.Leaf (leaf.Int (pos 0)) (place s l)) j)
         (returns Void same) (One elem.Int, refl, refl),
@@ -267,13 +295,13 @@ module _ (p : Program) (t : Table) (has : Has p t) where
   abbrev IsTested : Scope → Tested → Type 0
   IsTested s y =
       Behind p t s y.scope
-      × ((all : List Kind) (c : typed.Expr) → y.test ≡ Some c → Within y.scope.locals all
+      × ((all : List Kind) (c : typed.Expr) → y.test ≡ Some c → Ends p t y.scope all
       → Supplies p t all c (One elem.Int))
 
   for_test_is : (s : Scope) (l : ℕ) (c : Stmt) → IsScope t s → declares_globals s ≡ false
       → Ok (IsTested s) (for_test t s l c)
   for_test_is s l (tree.empty k) scope local =
-      ((scope, keeps_refl s), λ all c is within. absurd (cc))
+      ((scope, follows_refl p t s), λ all c is within. absurd (cc))
   for_test_is s l (tree.simple k x) scope local =
       ok_then (Test p t s) (IsTested s) (condition t s l x) (λ y. gives (tested y))
       (condition_is s l x scope (λ is. absurd (cc (local, is))))
@@ -295,7 +323,7 @@ module _ (p : Program) (t : Table) (has : Has p t) where
 
   for_step_is : (o : Surroundings) (s : Scope) (x : Option Expr) → IsScope t s
       → declares_globals s ≡ false → Ok (S p t o s) (for_step t s x)
-  for_step_is o s None scope local = ((scope, keeps_refl s), λ all result returns within. tt)
+  for_step_is o s None scope local = ((scope, follows_refl p t s), λ all result returns within. tt)
   for_step_is o s (Some x) scope local =
       ok_then (V p t s) (S p t o s) (typing t s x) (λ y. gives (simple (expr_line x) y))
       (typing_is s x scope (λ is. absurd (cc (local, is))))
@@ -310,6 +338,30 @@ module _ (p : Program) (t : Table) (has : Has p t) where
   made_is all result loop (Some c) start step body q is first next last =
       (is c refl, first, next, last)
 
+  -- `for` over an array ---------------------------------------------------------------------------
+
+  -- a kind of its name
+  abbrev IsItem : Valued → Kind → Type 0
+  IsItem x k =
+      (all : List Kind) → Ends p t x.scope all
+      → ValueIn (many t) k × TakesItems p t has x.typed.kind k
+
+  item_is : (s : Scope) (x : Valued) → V p t s x → (l : ℕ) (h : DeclHead) (n : Name)
+      (brackets : ℕ) (base : Option Base)
+      → Ok (IsItem x) (local_item t x.scope l h n brackets (item_kind x.typed.kind) base)
+  item_is s x is l h n brackets base =
+      ok_all (Ends p t x.scope)
+      (λ all k. ValueIn (many t) k × TakesItems p t has x.typed.kind k)
+      (local_item t x.scope l h n brackets (item_kind x.typed.kind) base)
+      (λ all ends. local_item_is p t has x.typed.kind (is.1 all ends).1 x.scope l h n brackets base)
+
+  item_follows : (x : Valued) (n : Name) (k : Kind) → IsItem x k
+      → Follows p t x.scope (with_local x.scope n k)
+  item_follows x n k item = (
+    local_keeps t x.scope n k,
+    λ all leads ends. local_ends p t x.scope n k all (item all ends).0 leads ends,
+  )
+
   -- all statements --------------------------------------------------------------------------------
 
   mutual
@@ -321,7 +373,7 @@ module _ (p : Program) (t : Table) (has : Has p t) where
         (statements_are o (with_block s) xs (with_block_is t s scope) (block_is_local s))
         (λ all are. left_is p t o s (block_of all.stmts) all.scope are.0 are.1)
     statement_is o s (tree.empty l) scope known =
-        ((scope, keeps_refl s), λ all result returns within. tt)
+        ((scope, follows_refl p t s), λ all result returns within. tt)
     statement_is o s (tree.simple l x) scope known =
         ok_then (V p t s) (S p t o s) (typing t s x) _ (typing_is s x scope known)
         (λ y is. simple_is o s l y is)
@@ -342,7 +394,7 @@ module _ (p : Program) (t : Table) (has : Has p t) where
         (nothing_known x.scope))) (λ y is. (
           is.0,
           λ all result returns within. (
-            test.1 all (within_grown x.scope y.scope all is.0.1.0 within),
+            test.1 all (ends_before p t x.scope y.scope all is.0.1.0.0 within),
             is.1 all result returns within,
             tt,
           ),
@@ -364,8 +416,8 @@ module _ (p : Program) (t : Table) (has : Has p t) where
         (nothing_known y.scope))) (λ z so. (
           so.0,
           λ all result returns within.
-              let kept = within_grown y.scope z.scope all so.0.1.0 within in (
-                test.1 all (within_grown x.scope y.scope all is.0.1.0 kept),
+              let kept = ends_before p t y.scope z.scope all so.0.1.0.0 within in (
+                test.1 all (ends_before p t x.scope y.scope all is.0.1.0.0 kept),
                 is.1 all result returns kept,
                 so.1 all result returns within,
               ),
@@ -381,7 +433,7 @@ module _ (p : Program) (t : Table) (has : Has p t) where
         (nothing_known x.scope))) (λ y is. (
           is.0,
           λ all result returns within. (
-            test.1 all (within_grown x.scope y.scope all is.0.1.0 within),
+            test.1 all (ends_before p t x.scope y.scope all is.0.1.0.0 within),
             is.1 all result returns within,
           ),
         ))))
@@ -396,7 +448,7 @@ module _ (p : Program) (t : Table) (has : Has p t) where
         (nothing_known x.scope))) (λ y is. (
           is.0,
           λ all result returns within. (
-            test.1 all (within_grown x.scope y.scope all is.0.1.0 within),
+            test.1 all (ends_before p t x.scope y.scope all is.0.1.0.0 within),
             is.1 all result returns within,
           ),
         ))))
@@ -409,11 +461,11 @@ module _ (p : Program) (t : Table) (has : Has p t) where
         later p t o s y.scope _ is.0.1
         (ok_then (Test p t y.scope) (S p t o y.scope) (condition t y.scope l c) _
         (condition_is y.scope l c is.0.0
-        (moved (λ f d. Declared t f d c) s y.scope is.0.1 known)) (λ x test. (
+        (moved p t (λ f d. Declared t f d c) s y.scope is.0.1 known)) (λ x test. (
           test.0,
           λ all result returns within. (
             test.1 all within,
-            is.1 all result returns (within_grown y.scope x.scope all test.0.1.0 within),
+            is.1 all result returns (ends_before p t y.scope x.scope all test.0.1.0.0 within),
           ),
         ))))
     statement_is o s (tree.do_until l a c) scope known =
@@ -425,11 +477,11 @@ module _ (p : Program) (t : Table) (has : Has p t) where
         later p t o s y.scope _ is.0.1
         (ok_then (Test p t y.scope) (S p t o y.scope) (condition t y.scope l c) _
         (condition_is y.scope l c is.0.0
-        (moved (λ f d. Declared t f d c) s y.scope is.0.1 known)) (λ x test. (
+        (moved p t (λ f d. Declared t f d c) s y.scope is.0.1 known)) (λ x test. (
           test.0,
           λ all result returns within. (
             test.1 all within,
-            is.1 all result returns (within_grown y.scope x.scope all test.0.1.0 within),
+            is.1 all result returns (ends_before p t y.scope x.scope all test.0.1.0.0 within),
           ),
         ))))
     statement_is o s (tree.for_do l a c x b) scope known =
@@ -439,26 +491,55 @@ module _ (p : Program) (t : Table) (has : Has p t) where
         (λ start first.
         ok_then (IsTested start.scope) (S p t o s) (for_test t start.scope l c) _
         (for_test_is start.scope l c first.0.0
-        (same_globals (with_block s) start.scope first.0.1 ∙ inner)) (λ test second.
-        let kept = keeps_trans (with_block s) start.scope test.scope first.0.1 second.0.1 in
+        (same_globals (with_block s) start.scope first.0.1.0 ∙ inner)) (λ test second.
+        let kept = follows_trans p t (with_block s) start.scope test.scope first.0.1 second.0.1 in
         ok_then (S p t o test.scope) (S p t o s) (for_step t test.scope x) _
         (for_step_is o test.scope x second.0.0
-        (same_globals (with_block s) test.scope kept ∙ inner)) (λ step third.
-        let keeps = keeps_trans (with_block s) test.scope step.scope kept third.0.1 in
+        (same_globals (with_block s) test.scope kept.0 ∙ inner)) (λ step third.
+        let keeps = follows_trans p t (with_block s) test.scope step.scope kept third.0.1 in
         ok_then (S p t (looped o) step.scope) (S p t o s)
         (closed (statement t (looped o) (with_block step.scope) b)) _
         (closed_is p t (looped o) step.scope (statement t (looped o) (with_block step.scope) b)
         (statement_is (looped o) (with_block step.scope) b (with_block_is t step.scope third.0.0)
         (nothing_known step.scope))) (λ body last.
         left_is p t o s (for_made test.test start.stmt step.stmt body.stmt (place body.scope l))
-        body.scope (last.0.0, keeps_trans (with_block s) step.scope body.scope keeps last.0.1)
+        body.scope (last.0.0, follows_trans p t (with_block s) step.scope body.scope keeps last.0.1)
         (λ all result returns within.
-        let in_step = within_grown step.scope body.scope all last.0.1.0 within in
-        let in_test = within_grown test.scope step.scope all third.0.1.0 in_step in
+        let in_step = ends_before p t step.scope body.scope all last.0.1.0.0 within in
+        let in_test = ends_before p t test.scope step.scope all third.0.1.0.0 in_step in
         made_is all result o.in_loop test.test start.stmt step.stmt body.stmt (place body.scope l)
         (λ d same. second.1 all d same in_test)
-        (first.1 all result returns (within_grown start.scope test.scope all second.0.1.0 in_test))
+        (first.1 all result returns (ends_before p t start.scope test.scope all second.0.1.0.0 in_test))
         (third.1 all result returns in_step) (last.1 all result returns within))))))
+    statement_is o s (tree.for_each l h n brackets a b) scope known =
+        ok_then (V p t (with_block s)) (S p t o s) (typing t (with_block s) a) _
+        (typing_is (with_block s) a (with_block_is t s scope) (nothing_known s)) (λ x first.
+        ok_then (IsItem x) (S p t o s)
+        (local_item t x.scope l h n brackets (item_kind x.typed.kind) h.base) _
+        (item_is (with_block s) x first l h n brackets h.base) (λ k item.
+        let u = with_local x.scope n k in
+        ok_then (S p t (looped o) u) (S p t o s)
+        (closed (statement t (looped o) (with_block u) b)) _
+        (closed_is p t (looped o) u (statement t (looped o) (with_block u) b)
+        (statement_is (looped o) (with_block u) b
+        (with_block_is t u (with_local_is t x.scope n k first.0.0)) (nothing_known u)))
+        (λ y last.
+        left_is p t o s
+        (typed.ForEach x.typed.expr (length x.scope.locals) (widens x.typed.kind k) y.stmt
+        (place y.scope l))
+        y.scope (
+          last.0.0,
+          follows_trans p t (with_block s) x.scope y.scope first.0.1
+              (follows_trans p t x.scope u y.scope (item_follows x n k item) last.0.1),
+        )
+        (λ all result returns within.
+        let bound = ends_before p t u y.scope all last.0.1.0.0 within in
+        let array = ends_before p t x.scope u all (with_local_grows t x.scope n k) bound in (
+          items_bound p t has all x.typed (length x.scope.locals) k (first.1 all array)
+              (item all array).1
+              (new_local t x.scope n k all (leads_of p t u all bound)),
+          last.1 all result returns within,
+        )))))
     statement_is o s (tree.repeat l c a) scope known =
         ok_then (Test p t s) (S p t o s) (condition t s l c) _ (condition_is s l c scope known)
         (λ x test.
@@ -470,7 +551,7 @@ module _ (p : Program) (t : Table) (has : Has p t) where
         (nothing_known x.scope))) (λ y is. (
           is.0,
           λ all result returns within. (
-            test.1 all (within_grown x.scope y.scope all is.0.1.0 within),
+            test.1 all (ends_before p t x.scope y.scope all is.0.1.0.0 within),
             is.1 all result returns within,
           ),
         ))))
@@ -483,11 +564,11 @@ module _ (p : Program) (t : Table) (has : Has p t) where
     pub statements_are : (o : Surroundings) (s : Scope) (xs : Stmts) → IsScope t s
         → declares_globals s ≡ false → Ok (Ss p t o s) (statements t o s xs)
     statements_are o s no_stmts scope local =
-        ((scope, keeps_refl s), λ all result returns within. tt)
+        ((scope, follows_refl p t s), λ all result returns within. tt)
     statements_are o s (and_stmt xs x) scope local =
         ok_then (Ss p t o s) (Ss p t o s) (statements t o s xs) _
         (statements_are o s xs scope local) (λ all are.
         ok_then (S p t o all.scope) (Ss p t o s) (statement t o all.scope x) _
         (statement_is o all.scope x are.0.0
-        (λ is. absurd (cc (local, is, same_globals s all.scope are.0.1))))
+        (λ is. absurd (cc (local, is, same_globals s all.scope are.0.1.0))))
         (λ y is. and_stated_is p t o s all y are is))

@@ -1,6 +1,6 @@
 -- The scopes that functions begin with: `this` where they take an object, and their parameters.
 use Rattle.std.proofs.Common.{◌≡◌, ℕ, zero, suc, ◌+◌, ◌<◌, ◌≤◌, Bool, true, false, not, List}
-use Rattle.std.proofs.Common.{if◌then◌else◌, [], ◌∷◌, ◌++◌, length, take, get_or, Option, Some}
+use Rattle.std.proofs.Common.{if◌then◌else◌, [], ◌∷◌, ◌++◌, length, take, Option, Some}
 use Rattle.std.proofs.Common.{None, slice_get, refl, sym, ap, subst, ◌∙◌, append_assoc, append-nil}
 use Rattle.std.proofs.Common.{lt-suc_self, arith}
 use Rattle.std.proofs.lemmas.List.{take_at, take_all, take_more, length_push}
@@ -15,8 +15,7 @@ use Rattle.type_table.specs.declared.fault.FaultKind.TheVariants.{Duplicate}
 use Rattle.first_walk.specs.FirstWalk.{param_kind, param_kinds}
 use Rattle.first_walk.proofs.KnownHeads.{kinds_of}
 use Rattle.type_table.specs.Table.{Table, fun_of}
-use Rattle.type_table.proofs.ListFacts.{each_at}
-use Rattle.type_table.proofs.Ranges.{Each, Within, ValueIn, many}
+use Rattle.type_table.proofs.Ranges.{Each, Within, many}
 use Rattle.first_walk.proofs.TableFacts.{owner}
 use Rattle.check_scope.specs.Scope.{Scope, new_scope, or_void, is_declared, with_block, with_last}
 use Rattle.check_scope.specs.Scope.{own_with, with_local, this_local}
@@ -29,7 +28,13 @@ use Rattle.expr_laws.proofs.Premises.{Ok, IsNumber, IsThis, IsClass, IsScope, Gr
 
 pub grows_same : (s : Scope) → Grows s s
 grows_same s =
-    record { file = refl; class = refl; fun = refl; locals = ([], sym (append-nil s.locals)) }
+    record {
+      file = refl;
+      class = refl;
+      fun = refl;
+      locals = ([], sym (append-nil s.locals));
+      settled = ([], sym (append-nil s.settled));
+    }
 
 pub grows_trans : (s u v : Scope) → Grows s u → Grows u v → Grows s v
 grows_trans s u v first second = record {
@@ -40,6 +45,11 @@ grows_trans s u v first second = record {
     first.locals.0 ++ second.locals.0,
     second.locals.1 ∙ ap (λ ls. ls ++ second.locals.0) first.locals.1
         ∙ append_assoc s.locals first.locals.0 second.locals.0,
+  );
+  settled = (
+    first.settled.0 ++ second.settled.0,
+    second.settled.1 ∙ ap (λ ks. ks ++ second.settled.0) first.settled.1
+        ∙ append_assoc s.settled first.settled.0 second.settled.0,
   );
 }
 
@@ -56,6 +66,7 @@ pub record Declares (s : Scope) (ks : List Kind) (u : Scope) : Type 0 where
   pub class : u.class ≡ s.class
   pub fun : u.fun ≡ s.fun
   pub locals : u.locals ≡ s.locals ++ ks
+  pub settled : u.settled ≡ s.settled
 
 pub declares_more : (s u : Scope) (n : tree.Name) (js ks : List Kind) (j k : Kind) → Declares s js u
     → k ≡ j → ks ≡ js ++ j ∷ [] → Declares s ks (with_local u n k)
@@ -69,6 +80,7 @@ declares_more s u n js ks j k before same are =
       fun = before.fun;
       locals =
           ap (λ ls. ls ++ k ∷ []) before.locals ∙ last;
+      settled = before.settled;
     }
 
 -- a function has as many types of parameters as its text
@@ -90,7 +102,13 @@ next_type types n lt =
 pub first_declared : (types : List Kind) (s : Scope) (l : ℕ) (ps : Params)
     → count ps ≤ length types → Ok (Declares s (take (count ps) types)) (with_params types s l ps)
 first_declared types s l no_params few =
-    record { file = refl; class = refl; fun = refl; locals = sym (append-nil s.locals) }
+    record {
+      file = refl;
+      class = refl;
+      fun = refl;
+      locals = sym (append-nil s.locals);
+      settled = refl;
+    }
 first_declared types s l (and_param ps p) few =
     let k : Kind = or_void (slice_get types (count ps)) in
     ok_then (Declares s (take (count ps) types)) (Declares s (take (count ps + 1) types))
@@ -111,16 +129,17 @@ params_declared types s l ps is =
 
 -- the object is declared first where there is one
 pub fun_scope_declares : (file : ℕ) (class : Option ℕ) (n : ℕ) (is_static : Bool)
-    → Declares (new_scope file class (Some n)) (this_of (owner class is_static))
-    (fun_scope file class n is_static)
-fun_scope_declares file (Some c) n true =
-    record { file = refl; class = refl; fun = refl; locals = refl }
-fun_scope_declares file (Some c) n false =
-    record { file = refl; class = refl; fun = refl; locals = refl }
-fun_scope_declares file None n true =
-    record { file = refl; class = refl; fun = refl; locals = refl }
-fun_scope_declares file None n false =
-    record { file = refl; class = refl; fun = refl; locals = refl }
+    (settled : List (ℕ × Kind))
+    → Declares (new_scope file class (Some n) settled) (this_of (owner class is_static))
+    (fun_scope file class n is_static settled)
+fun_scope_declares file (Some c) n true settled =
+    record { file = refl; class = refl; fun = refl; locals = refl; settled = refl }
+fun_scope_declares file (Some c) n false settled =
+    record { file = refl; class = refl; fun = refl; locals = refl; settled = refl }
+fun_scope_declares file None n true settled =
+    record { file = refl; class = refl; fun = refl; locals = refl; settled = refl }
+fun_scope_declares file None n false settled =
+    record { file = refl; class = refl; fun = refl; locals = refl; settled = refl }
 
 -- right scopes ------------------------------------------------------------------------------------
 
@@ -189,9 +208,8 @@ module _ (t : Table) (s : Scope) (n : tree.Name) (k : Kind) where
   this_stays (Some i) None is = absurd is
   this_stays (Some i) (Some c) is = (front_get s.locals (k ∷ []) i (One (elem.Class c)) is.0, is.1)
 
-  pub local_is : IsScope t s → ValueIn (many t) k → IsScope t (with_local s n k)
-  local_is is kind = record {
-    kinds = each_append (ValueIn (many t)) s.locals (k ∷ []) is.kinds (kind, tt);
+  pub local_is : IsScope t s → IsScope t (with_local s n k)
+  local_is is = record {
     own = own_are s.blocks s.own is.own;
     blocks = last_is s.blocks (blocks_stay s.blocks is.blocks);
     class = is.class;
@@ -202,7 +220,6 @@ module _ (t : Table) where
   pub block_is : (s : Scope) → IsScope t s → IsScope t (with_block s)
   block_is s is =
       record {
-        kinds = is.kinds;
         own = is.own;
         blocks =
             each_append (Each (IsNumber s)) s.blocks ([] ∷ []) is.blocks (tt, tt);
@@ -211,66 +228,53 @@ module _ (t : Table) where
         this = is.this;
       }
 
-  -- parameters are values
-  pub params_are : (types : List Kind) (s : Scope) (l : ℕ) (ps : Params)
-      → count ps ≤ length types → Each (ValueIn (many t)) types → IsScope t s
+  -- with parameters a scope stays right
+  pub params_are : (types : List Kind) (s : Scope) (l : ℕ) (ps : Params) → IsScope t s
       → Ok (IsScope t) (with_params types s l ps)
-  params_are types s l no_params few values scope = scope
-  params_are types s l (and_param ps p) few values scope =
-      let there = slice_get-get_or types (count ps) Void (omega (arith, few)) in
+  params_are types s l no_params scope = scope
+  params_are types s l (and_param ps p) scope =
       ok_then (IsScope t) (IsScope t) (with_params types s l ps)
       (λ u. with_param u l p.name (or_void (slice_get types (count ps))))
-      (params_are types s l ps (omega (arith, few)) values scope) (λ u before.
+      (params_are types s l ps scope) (λ u before.
       ok_if (IsScope t) (is_declared u p.name) (wrong u.file l Duplicate)
       (gives (with_local u p.name (or_void (slice_get types (count ps))))) (λ _. tt) (λ _.
-      local_is t u p.name (or_void (slice_get types (count ps))) before
-      (subst (ValueIn (many t)) (sym (ap or_void there))
-      (each_at (ValueIn (many t)) types (count ps) (get_or types (count ps) Void) values there))))
+      local_is t u p.name (or_void (slice_get types (count ps))) before))
 
   -- the scopes of a file's statements, of a class's and of functions
-  pub file_scope_is : (file : ℕ) → IsScope t (new_scope file None None)
-  file_scope_is file = record { kinds = tt; own = tt; blocks = tt; class = tt; this = tt }
+  pub file_scope_is : (file : ℕ) → IsScope t (new_scope file None None [])
+  file_scope_is file = record { own = tt; blocks = tt; class = tt; this = tt }
 
-  pub class_scope_is : (file c : ℕ) → c < many t
-      → IsScope t (with_this (new_scope file (Some c) None) c)
-  class_scope_is file c within =
-      record {
-        kinds = (within, tt);
-        own = (lt-suc_self 0, tt);
-        blocks = tt;
-        class = within;
-        this =
-            (refl, within);
-      }
+  module _ (settled : List (ℕ × Kind)) where
+    pub class_scope_is : (file c : ℕ) → c < many t
+        → IsScope t (with_this (new_scope file (Some c) None settled) c)
+    class_scope_is file c within =
+        record { own = (lt-suc_self 0, tt); blocks = tt; class = within; this = (refl, within) }
 
-  pub this_or_none : (file c n : ℕ) (b : Bool) → c < many t
-      → IsThis t (with_this (new_scope file (Some c) (Some n)) c) (if b then Some 0 else None)
-      (Some c)
-  this_or_none file c n true within = (refl, within)
-  this_or_none file c n false within = tt
+    pub this_or_none : (file c n : ℕ) (b : Bool) → c < many t
+        → IsThis t (with_this (new_scope file (Some c) (Some n) settled) c)
+        (if b then Some 0 else None) (Some c)
+    this_or_none file c n true within = (refl, within)
+    this_or_none file c n false within = tt
 
-  pub fun_scope_is : (file : ℕ) (class : Option ℕ) (n : ℕ) (is_static : Bool) → IsClass t class
-      → (fun_of t n).is_static ≡ is_static → IsScope t (fun_scope file class n is_static)
-  fun_scope_is file (Some c) n true within is =
-      record {
-        kinds = tt;
-        own = tt;
-        blocks = tt;
-        class = within;
-        this =
-            subst (λ b. IsThis t (new_scope file (Some c) (Some n)) (if not b then Some 0 else None)
-            (Some c)) (sym is) tt;
-      }
-  fun_scope_is file (Some c) n false within is =
-      record {
-        kinds = (within, tt);
-        own = (lt-suc_self 0, tt);
-        blocks = tt;
-        class = within;
-        this =
-            this_or_none file c n (not (fun_of t n).is_static) within;
-      }
-  fun_scope_is file None n true within is =
-      record { kinds = tt; own = tt; blocks = tt; class = tt; this = tt }
-  fun_scope_is file None n false within is =
-      record { kinds = tt; own = tt; blocks = tt; class = tt; this = tt }
+    pub fun_scope_is : (file : ℕ) (class : Option ℕ) (n : ℕ) (is_static : Bool) → IsClass t class
+        → (fun_of t n).is_static ≡ is_static → IsScope t (fun_scope file class n is_static settled)
+    fun_scope_is file (Some c) n true within is =
+        record {
+          own = tt;
+          blocks = tt;
+          class = within;
+          this =
+              subst (λ b. IsThis t (new_scope file (Some c) (Some n) settled)
+              (if not b then Some 0 else None) (Some c)) (sym is) tt;
+        }
+    fun_scope_is file (Some c) n false within is =
+        record {
+          own = (lt-suc_self 0, tt);
+          blocks = tt;
+          class = within;
+          this = this_or_none file c n (not (fun_of t n).is_static) within;
+        }
+    fun_scope_is file None n true within is =
+        record { own = tt; blocks = tt; class = tt; this = tt }
+    fun_scope_is file None n false within is =
+        record { own = tt; blocks = tt; class = tt; this = tt }

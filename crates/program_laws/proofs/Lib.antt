@@ -1,14 +1,17 @@
+pub mod FineItems
 pub mod FineStatements
 pub mod StatementsGrow
 pub mod Parallel
 pub mod FunctionScopes
 pub mod Matching
 pub mod FineFunctions
+pub mod FileSettles
 pub mod TypedFiles
 pub mod Found
 pub mod TableLaws
 pub mod BelowOf
 pub mod Known
+pub mod SettledTables
 pub mod FineClasses
 pub mod FileLaws
 pub mod WholeProgram

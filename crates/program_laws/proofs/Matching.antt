@@ -4,6 +4,8 @@ use Rattle.std.proofs.Common.{◌≡◌, ℕ, suc, ◌+◌, Bool, true, false, L
 use Rattle.std.proofs.Common.{Option, Some, None, slice_get, refl, sym, ap, ◌∙◌, append_assoc}
 use Rattle.std.proofs.Common.{append-nil, length-append}
 use Rattle.std.proofs.lemmas.List.{map-append, length-map}
+use Rattle.ck_values.specs.declared.kind.Kind.{Kind}
+use Rattle.ck_values.specs.declared.kind.Kind.TheVariants.{Void}
 use Rattle.ck_syntax.specs.Tree as tree
 use Rattle.ck_syntax.specs.Tree.{Params, no_params, and_param, Stmt, Stmts, Members, no_members}
 use Rattle.ck_syntax.specs.Tree.{and_member, fun_member, stmt_member, no_items, and_item}
@@ -22,7 +24,7 @@ use Rattle.check_scope.specs.Scope.{Scope, new_scope, with_block}
 use Rattle.program_laws.specs.Statements.{Stated, AllStated, and_stated, statement, statements}
 use Rattle.program_laws.specs.Programs.{with_this, fun_scope, count, with_params, fun_made, in_fun}
 use Rattle.program_laws.specs.Programs.{in_no_fun, fun_with, fun_typed, Walked, and_statement}
-use Rattle.program_laws.specs.Programs.{and_fun, and_member_typed, members_typed, class_funs}
+use Rattle.program_laws.specs.Programs.{settled_by, and_fun, and_member_typed, members_typed, class_funs}
 use Rattle.program_laws.specs.Programs.{first_method, class_typed, and_funs, and_item_typed}
 use Rattle.program_laws.specs.Programs.{items_typed, file_funs}
 use Rattle.ck_typed.specs.Standing.{given}
@@ -111,12 +113,17 @@ HasHead t file f = (h : Head) × (head_of t file f ≡ Some h)
 -- a function has as many types of parameters as its text
 abbrev pub params_in : tree.Fun → Params
 params_in (tree.fun l is_static result name ps body) = ps
+params_in (tree.constructor l ps body) = ps
 
 pub fun_count : (t : Table) (file n : ℕ) (f : tree.Fun) (has : HasHead t file f)
     → fun_of t n ≡ has.0 → count (params_in f) ≡ length (fun_of t n).params
 fun_count t file n (tree.fun l is_static result name ps body) has is =
     count_is t file ps has.0.params (head_parts is_static (param_kinds t file ps)
     (result_kind (named_by t file result.base) result.brackets) has.0 has.1).0
+    ∙ sym (ap (λ (h : Head). length h.params) is)
+fun_count t file n (tree.constructor l ps body) has is =
+    count_is t file ps has.0.params
+    (head_parts false (param_kinds t file ps) (Some Void) has.0 has.1).0
     ∙ sym (ap (λ (h : Head). length h.params) is)
 
 -- each function of a class or of a file has its types
@@ -141,10 +148,10 @@ Walks begin es w = Grows begin w.stated.scope × Zip Matches w.funs es
 
 -- what the statements of a file, and of a class, begin with
 abbrev pub file_scope : (file : ℕ) → Scope
-file_scope file = new_scope file None None
+file_scope file = new_scope file None None []
 
-abbrev pub class_scope : (file class : ℕ) → Scope
-class_scope file c = with_this (new_scope file (Some c) None) c
+abbrev pub class_scope : (file class : ℕ) → (settled : List (ℕ × Kind)) → Scope
+class_scope file c settled = with_this (new_scope file (Some c) None settled) c
 
 -- the numbers of functions in a walk
 module _ (t : Table) (file : ℕ) where
@@ -190,31 +197,39 @@ module _ (t : Table)
     (grow_all : (o : Surroundings) (s : Scope) (xs : Stmts)
     → Ok (λ (y : AllStated). Grows s y.scope) (statements t o s xs))
     (file : ℕ) where
-  pub fun_matches : (class : Option ℕ) (n : ℕ) (f : tree.Fun) → HasHead t file f
-      → fun_of t n ≡ (fun_entry t file class f).0
-      → Ok (λ g. Matches g (fun_entry t file class f)) (fun_typed t file class n f)
-  fun_matches class n (tree.fun l is_static result name ps body) has is =
-      ok_then (Declares s (fun_of t n).params) Good (with_params (fun_of t n).params s l ps)
-      (fun_with t n l body) (params_declared (fun_of t n).params s l ps (fun_count t file n
-      (tree.fun l is_static result name ps body) has (is ∙ ap or_no_head has.1))) (λ u declares.
-      ok_then (λ (y : AllStated). Grows (with_block u) y.scope) Good
+  -- a function of this head, whose scope begins with the object alone where it takes one
+  made_matches : (n l : ℕ) (ps : Params) (body : Stmts) (s : Scope) (o : Option ℕ) (h : Head)
+      → s.locals ≡ this_of o → count ps ≡ length (fun_of t n).params → fun_of t n ≡ h
+      → Ok (λ g. Matches g (h, o))
+      (and_then (with_params (fun_of t n).params s l ps) (λ u. fun_with t n l body u))
+  made_matches n l ps body s o h begins counted is =
+      ok_then (Declares s (fun_of t n).params) (λ g. Matches g (h, o))
+      (with_params (fun_of t n).params s l ps) (λ u. fun_with t n l body u)
+      (params_declared (fun_of t n).params s l ps counted) (λ u declares.
+      ok_then (λ (y : AllStated). Grows (with_block u) y.scope) (λ g. Matches g (h, o))
       (statements t (in_fun (fun_of t n).result) (with_block u) body)
       (λ all. gives (fun_made (length u.locals) (fun_of t n).result l all))
       (grow_all (in_fun (fun_of t n).result) (with_block u) body) (λ all grows. (
         front_of u.locals all.scope.locals grows.locals ∙ declares.locals
-            ∙ ap (λ ks. ks ++ (fun_of t n).params) begins.locals
-            ∙ ap (λ (h : Head). this_of (owner class is_static) ++ h.params) is,
-        ap (λ (h : Head). given h.result) is,
+            ∙ ap (λ ks. ks ++ (fun_of t n).params) begins
+            ∙ ap (λ (g : Head). this_of o ++ g.params) is,
+        ap (λ (g : Head). given g.result) is,
       )))
-    where
-      s : Scope
-      s = fun_scope file class n is_static
 
-      begins : Declares (new_scope file class (Some n)) (this_of (owner class is_static)) s
-      begins = fun_scope_declares file class n is_static
-
-      Good : typed.Fun → Type 0
-      Good g = Matches g (fun_entry t file class (tree.fun l is_static result name ps body))
+  pub fun_matches : (class : Option ℕ) (n : ℕ) (settled : List (ℕ × Kind)) (f : tree.Fun)
+      → HasHead t file f → fun_of t n ≡ (fun_entry t file class f).0
+      → Ok (λ g. Matches g (fun_entry t file class f)) (fun_typed t file class n settled f)
+  fun_matches class n settled (tree.fun l is_static result name ps body) has is =
+      made_matches n l ps body (fun_scope file class n is_static settled) (owner class is_static)
+      (or_no_head (head_of t file (tree.fun l is_static result name ps body)))
+      (fun_scope_declares file class n is_static settled).locals
+      (fun_count t file n (tree.fun l is_static result name ps body) has
+      (is ∙ ap or_no_head has.1)) is
+  fun_matches class n settled (tree.constructor l ps body) has is =
+      made_matches n l ps body (fun_scope file class n false settled) class
+      (or_no_head (head_of t file (tree.constructor l ps body)))
+      (fun_scope_declares file class n false settled).locals
+      (fun_count t file n (tree.constructor l ps body) has (is ∙ ap or_no_head has.1)) is
 
   -- walks -------------------------------------------------------------------------------------
 
@@ -231,12 +246,12 @@ module _ (t : Table)
       (f : tree.Fun) → HasHead t file f → Numbered t first (es ++ fun_entry t file class f ∷ [])
       → Walks begin es w
       → Ok (Walks begin (es ++ fun_entry t file class f ∷ []))
-      (and_then (fun_typed t file class (first + length w.funs) f) (λ g. gives (and_fun w g)))
+      (and_then (fun_typed t file class (first + length w.funs) (settled_by w) f) (λ g. gives (and_fun w g)))
   fun_walks begin es w class first f has numbered walks =
       ok_then (λ g. Matches g (fun_entry t file class f))
       (Walks begin (es ++ fun_entry t file class f ∷ []))
-      (fun_typed t file class (first + length w.funs) f) (λ g. gives (and_fun w g))
-      (fun_matches class (first + length w.funs) f has
+      (fun_typed t file class (first + length w.funs) (settled_by w) f) (λ g. gives (and_fun w g))
+      (fun_matches class (first + length w.funs) (settled_by w) f has
       (next_is t file first es (fun_entry t file class f) w.funs numbered walks.1))
       (λ g matches. (
         walks.0,
@@ -244,57 +259,57 @@ module _ (t : Table)
             (matches, tt),
       ))
 
-  pub members_walk : (c first : ℕ) (ms : Members) → MembersHaveHeads t file ms
+  pub members_walk : (c first : ℕ) (settled : List (ℕ × Kind)) (ms : Members) → MembersHaveHeads t file ms
       → Numbered t first (member_entries t file c ms)
-      → Ok (Walks (class_scope file c) (member_entries t file c ms))
-      (members_typed t file c first ms)
-  members_walk c first no_members has numbered = (grows_same (class_scope file c), tt)
-  members_walk c first (and_member ms (stmt_member x)) has numbered =
-      ok_then (Walks (class_scope file c) (member_entries t file c ms))
-      (Walks (class_scope file c) (member_entries t file c ms))
-      (members_typed t file c first ms) (λ w. and_statement t w x)
-      (members_walk c first ms has numbered)
-      (λ w walks. statement_walks (class_scope file c) (member_entries t file c ms) w x walks)
-  members_walk c first (and_member ms (fun_member f)) has numbered =
-      ok_then (Walks (class_scope file c) (member_entries t file c ms))
-      (Walks (class_scope file c)
+      → Ok (Walks (class_scope file c settled) (member_entries t file c ms))
+      (members_typed t file c first settled ms)
+  members_walk c first settled no_members has numbered = (grows_same (class_scope file c settled), tt)
+  members_walk c first settled (and_member ms (stmt_member x)) has numbered =
+      ok_then (Walks (class_scope file c settled) (member_entries t file c ms))
+      (Walks (class_scope file c settled) (member_entries t file c ms))
+      (members_typed t file c first settled ms) (λ w. and_statement t w x)
+      (members_walk c first settled ms has numbered)
+      (λ w walks. statement_walks (class_scope file c settled) (member_entries t file c ms) w x walks)
+  members_walk c first settled (and_member ms (fun_member f)) has numbered =
+      ok_then (Walks (class_scope file c settled) (member_entries t file c ms))
+      (Walks (class_scope file c settled)
       (member_entries t file c ms ++ fun_entry t file (Some c) f ∷ []))
-      (members_typed t file c first ms) (λ w. and_member_typed t file c first w (fun_member f))
-      (members_walk c first ms has.0
+      (members_typed t file c first settled ms) (λ w. and_member_typed t file c first w (fun_member f))
+      (members_walk c first settled ms has.0
       (numbered_front t first (member_entries t file c ms)
       (fun_entry t file (Some c) f ∷ []) numbered))
-      (λ w walks. fun_walks (class_scope file c) (member_entries t file c ms) w
+      (λ w walks. fun_walks (class_scope file c settled) (member_entries t file c ms) w
       (Some c) first f has.1 numbered walks)
 
-  pub funs_match : (b : Bool) (l c : ℕ) (es : List Entry) (w : Walked)
-      → Walks (class_scope file c) es w → Zip Matches (class_funs b l w) (body_entries b c ++ es)
-  funs_match true l c es w walks =
+  pub funs_match : (b : Bool) (l c : ℕ) (settled : List (ℕ × Kind)) (es : List Entry) (w : Walked)
+      → Walks (class_scope file c settled) es w → Zip Matches (class_funs b l w) (body_entries b c ++ es)
+  funs_match true l c settled es w walks =
       ((front_of (this_of (Some c)) w.stated.scope.locals walks.0.locals, refl), walks.1)
-  funs_match false l c es w walks = walks.1
+  funs_match false l c settled es w walks = walks.1
 
-  pub class_matches : (first : ℕ) (x : tree.Class) → ItemHasHeads t file (class_item x)
+  pub class_matches : (first : ℕ) (settled : List (ℕ × Kind)) (x : tree.Class) → ItemHasHeads t file (class_item x)
       → Numbered t first (item_entries t file (class_item x))
-      → Ok (λ fs. Zip Matches fs (item_entries t file (class_item x))) (class_typed t file first x)
-  class_matches first (tree.class l is_public n parent ms) has numbered =
+      → Ok (λ fs. Zip Matches fs (item_entries t file (class_item x))) (class_typed t file first settled x)
+  class_matches first settled (tree.class l is_public n parent ms) has numbered =
       let c : ℕ = own_class t file n in
       let b : Bool = has_statement ms in
-      ok_then (Walks (class_scope file c) (member_entries t file c ms))
+      ok_then (Walks (class_scope file c settled) (member_entries t file c ms))
       (λ fs. Zip Matches fs (body_entries b c ++ member_entries t file c ms))
-      (members_typed t file c (first_method b first) ms) (λ w. gives (class_funs b l w))
-      (members_walk c (first_method b first) ms has (methods_numbered t file b c first ms numbered))
-      (λ w walks. funs_match b l c (member_entries t file c ms) w walks)
+      (members_typed t file c (first_method b first) settled ms) (λ w. gives (class_funs b l w))
+      (members_walk c (first_method b first) settled ms has (methods_numbered t file b c first ms numbered))
+      (λ w walks. funs_match b l c settled (member_entries t file c ms) w walks)
 
   pub class_walks : (begin : Scope) (es : List Entry) (w : Walked) (first : ℕ) (x : tree.Class)
       → ItemHasHeads t file (class_item x)
       → Numbered t first (es ++ item_entries t file (class_item x))
       → Walks begin es w
       → Ok (Walks begin (es ++ item_entries t file (class_item x)))
-      (and_then (class_typed t file (first + length w.funs) x) (λ fs. gives (and_funs w fs)))
+      (and_then (class_typed t file (first + length w.funs) (settled_by w) x) (λ fs. gives (and_funs w fs)))
   class_walks begin es w first x has numbered walks =
       let more : List Entry = item_entries t file (class_item x) in
       ok_then (λ fs. Zip Matches fs more) (Walks begin (es ++ more))
-      (class_typed t file (first + length w.funs) x) (λ fs. gives (and_funs w fs))
-      (class_matches (first + length w.funs) x has
+      (class_typed t file (first + length w.funs) (settled_by w) x) (λ fs. gives (and_funs w fs))
+      (class_matches (first + length w.funs) (settled_by w) x has
       (rw (zip_length Matches w.funs es walks.1) (numbered_rest t first es more numbered)))
       (λ fs are. (walks.0, zip_append Matches w.funs fs es more walks.1 are))
 

@@ -21,7 +21,8 @@ use Rattle.program_laws.specs.Programs.{fun_scope, with_param, count, with_param
 use Rattle.program_laws.specs.Programs.{in_no_fun, fun_with, fun_typed, Walked, and_statement, and_fun}
 use Rattle.program_laws.specs.Programs.{and_member_typed, members_typed, class_funs, first_method}
 use Rattle.program_laws.specs.Programs.{class_typed, next_fun, and_item_typed, items_typed}
-use Rattle.program_laws.specs.Programs.{file_funs, Checked, none_checked, file_checked, files_from}
+use Rattle.program_laws.specs.Programs.{file_funs, settled_by, Checked, none_checked, file_checked}
+use Rattle.program_laws.specs.Programs.{files_from}
 use Rattle.expr_laws.proofs.ExprFiles.{inside}
 use Rattle.expr_laws.proofs.ScopeLaws.{each_and}
 use Rattle.program_laws.proofs.Found.{each_append}
@@ -42,12 +43,12 @@ WalkedIn files f w = AllStatedIn files f w.stated × FunsLie files w.funs
 module _ (files f : ℕ) (known : f < files) (t : Table) where
   -- functions -------------------------------------------------------------------------------------
 
-  scope_in : (class : Option ℕ) (g : ℕ) (is_static : Bool)
-      → (fun_scope f class g is_static).file ≡ f
-  scope_in (Some c) g false = refl
-  scope_in (Some c) g true = refl
-  scope_in None g false = refl
-  scope_in None g true = refl
+  scope_in : (class : Option ℕ) (g : ℕ) (is_static : Bool) (settled : List (ℕ × Kind))
+      → (fun_scope f class g is_static settled).file ≡ f
+  scope_in (Some c) g false settled = refl
+  scope_in (Some c) g true settled = refl
+  scope_in None g false settled = refl
+  scope_in None g true settled = refl
 
   param_in : (s : Scope) → s.file ≡ f → (l : ℕ) (n : Name) (k : Kind)
       → Placed (ScopeIn f) f (with_param s l n k)
@@ -73,14 +74,21 @@ module _ (files f : ℕ) (known : f < files) (t : Table) where
       (statements_in files f known t (in_fun (fun_of t g).result) (with_block s) here body)
       (λ all so. made_lies (length s.locals) (fun_of t g).result l all so)
 
-  fun_in : (class : Option ℕ) (g : ℕ) (x : tree.Fun)
-      → Placed (FunLies files) f (fun_typed t f class g x)
-  fun_in class g (tree.fun l is_static result n ps body) =
-      placed_then (ScopeIn f) (FunLies files) f
-      (with_params (fun_of t g).params (fun_scope f class g is_static) l ps) _
-      (params_in (fun_of t g).params (fun_scope f class g is_static)
-      (scope_in class g is_static) l ps)
-      (λ s so. fun_with_in g l body s so)
+  -- a function whose scope begins so
+  begun_in : (g l : ℕ) (ps : Params) (body : tree.Stmts) (s : Scope) → s.file ≡ f
+      → Placed (FunLies files) f
+      (and_then (with_params (fun_of t g).params s l ps) (λ u. fun_with t g l body u))
+  begun_in g l ps body s here =
+      placed_then (ScopeIn f) (FunLies files) f (with_params (fun_of t g).params s l ps) _
+      (params_in (fun_of t g).params s here l ps) (λ u so. fun_with_in g l body u so)
+
+  fun_in : (class : Option ℕ) (g : ℕ) (settled : List (ℕ × Kind)) (x : tree.Fun)
+      → Placed (FunLies files) f (fun_typed t f class g settled x)
+  fun_in class g settled (tree.fun l is_static result n ps body) =
+      begun_in g l ps body (fun_scope f class g is_static settled)
+      (scope_in class g is_static settled)
+  fun_in class g settled (tree.constructor l ps body) =
+      begun_in g l ps body (fun_scope f class g false settled) (scope_in class g false settled)
 
   -- classes and files -----------------------------------------------------------------------------
 
@@ -93,10 +101,11 @@ module _ (files f : ℕ) (known : f < files) (t : Table) where
       (λ y so. ((so.0, more_lie files w.stated.stmts y.stmt here.0.1 so.1), here.1))
 
   and_fun_in : (w : Walked) → WalkedIn files f w → (class : Option ℕ) (g : ℕ) (x : tree.Fun)
-      → Placed (WalkedIn files f) f (and_then (fun_typed t f class g x) (λ y. gives (and_fun w y)))
+      → Placed (WalkedIn files f) f
+      (and_then (fun_typed t f class g (settled_by w) x) (λ y. gives (and_fun w y)))
   and_fun_in w here class g x =
-      placed_then (FunLies files) (WalkedIn files f) f (fun_typed t f class g x) _
-      (fun_in class g x) (λ y so. (here.0, each_and (FunLies files) w.funs y here.1 so))
+      placed_then (FunLies files) (WalkedIn files f) f (fun_typed t f class g (settled_by w) x) _
+      (fun_in class g (settled_by w) x) (λ y so. (here.0, each_and (FunLies files) w.funs y here.1 so))
 
   and_member_in : (c first : ℕ) (w : Walked) → WalkedIn files f w → (m : tree.Member)
       → Placed (WalkedIn files f) f (and_member_typed t f c first w m)
@@ -104,23 +113,24 @@ module _ (files f : ℕ) (known : f < files) (t : Table) where
   and_member_in c first w here (fun_member x) =
       and_fun_in w here (Some c) (first + length w.funs) x
 
-  members_in : (c first : ℕ) (ms : Members)
-      → Placed (WalkedIn files f) f (members_typed t f c first ms)
-  members_in c first no_members = ((refl, tt), tt)
-  members_in c first (and_member ms m) =
-      placed_then (WalkedIn files f) (WalkedIn files f) f (members_typed t f c first ms) _
-      (members_in c first ms) (λ w so. and_member_in c first w so m)
+  members_in : (c first : ℕ) (settled : List (ℕ × Kind)) (ms : Members)
+      → Placed (WalkedIn files f) f (members_typed t f c first settled ms)
+  members_in c first settled no_members = ((refl, tt), tt)
+  members_in c first settled (and_member ms m) =
+      placed_then (WalkedIn files f) (WalkedIn files f) f (members_typed t f c first settled ms) _
+      (members_in c first settled ms) (λ w so. and_member_in c first w so m)
 
   class_funs_lie : (has_body : Bool) (l : ℕ) (w : Walked) → WalkedIn files f w
       → FunsLie files (class_funs has_body l w)
   class_funs_lie true l w here = (made_lies 1 Void l w.stated here.0, here.1)
   class_funs_lie false l w here = here.1
 
-  class_in : (first : ℕ) (c : tree.Class) → Placed (FunsLie files) f (class_typed t f first c)
-  class_in first (tree.class l is_public n parent ms) =
+  class_in : (first : ℕ) (settled : List (ℕ × Kind)) (c : tree.Class)
+      → Placed (FunsLie files) f (class_typed t f first settled c)
+  class_in first settled (tree.class l is_public n parent ms) =
       placed_then (WalkedIn files f) (FunsLie files) f
-      (members_typed t f (own_class t f n) (first_method (has_statement ms) first) ms) _
-      (members_in (own_class t f n) (first_method (has_statement ms) first) ms)
+      (members_typed t f (own_class t f n) (first_method (has_statement ms) first) settled ms) _
+      (members_in (own_class t f n) (first_method (has_statement ms) first) settled ms)
       (λ w so. class_funs_lie (has_statement ms) l w so)
 
   and_item_in : (w : Walked) → WalkedIn files f w → (x : tree.Item)
@@ -128,8 +138,9 @@ module _ (files f : ℕ) (known : f < files) (t : Table) where
   and_item_in w here (stmt_item s) = and_statement_in w here s
   and_item_in w here (fun_item x) = and_fun_in w here None (next_fun t f w) x
   and_item_in w here (class_item c) =
-      placed_then (FunsLie files) (WalkedIn files f) f (class_typed t f (next_fun t f w) c) _
-      (class_in (next_fun t f w) c)
+      placed_then (FunsLie files) (WalkedIn files f) f
+      (class_typed t f (next_fun t f w) (settled_by w) c) _
+      (class_in (next_fun t f w) (settled_by w) c)
       (λ fs so. (here.0, each_append (FunLies files) w.funs fs here.1 so))
 
   items_in : (xs : tree.File) → Placed (WalkedIn files f) f (items_typed t f xs)

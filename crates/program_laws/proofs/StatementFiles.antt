@@ -2,30 +2,34 @@
 -- scope, which is also that of the scope behind it.
 use Rattle.std.proofs.Common.{◌≡◌, ℕ, ◌<◌, ◌||◌, List, [], ◌∷◌, ◌++◌, Option, Some, None}
 use Rattle.std.specs.List.{list_any}
-use Rattle.std.specs.Prelude.{IfSome}
+use Rattle.std.specs.Prelude.{IfSome, nat_lt}
 use Rattle.ck_values.specs.declared.kind.Kind.{Kind}
 use Rattle.ck_values.specs.declared.kind.Kind.TheVariants.{Void}
 use Rattle.ck_values.specs.declared.trap.Place.{Place}
+use Rattle.ck_syntax.specs.declared.declaration.Base.{Base}
 use Rattle.ck_syntax.specs.declared.declaration.DeclHead.{DeclHead}
 use Rattle.ck_syntax.specs.Tree as tree
-use Rattle.ck_syntax.specs.Tree.{Expr, expr_line, Declrs, no_declrs, and_declr, Stmt, Stmts}
+use Rattle.ck_syntax.specs.Tree.{Name, Expr, expr_line, Declrs, no_declrs, and_declr, Stmt, Stmts}
 use Rattle.ck_syntax.specs.Tree.{no_stmts, and_stmt}
 use Rattle.ck_typed.specs.Tree as typed
 use Rattle.ck_typed.specs.WellFormed.{LiesIn, ExprLies, ExprsLie, StmtLies, StmtsLie}
 use Rattle.type_table.specs.Answer.{Answer, gives, refused, and_then}
+use Rattle.type_rules.specs.Fitting.{kind_fits}
 use Rattle.type_table.specs.Table.{Table}
-use Rattle.type_table.proofs.FaultFiles.{Placed, placed_then, placed_if}
+use Rattle.type_table.specs.Types.{named_by, is_unknown}
+use Rattle.type_table.proofs.FaultFiles.{Placed, InFile, placed_then, placed_if, if_in}
 use Rattle.type_table.proofs.Ranges.{Each}
 use Rattle.program_laws.specs.declared.surroundings.Surroundings.{Surroundings}
-use Rattle.check_scope.specs.Denotations.{Typed}
+use Rattle.check_scope.specs.Denotations.{Typed, is_void}
 use Rattle.check_scope.specs.Expressions as e
 use Rattle.check_scope.specs.Expressions.{Valued, AllValued, typing, values, is_int}
-use Rattle.check_scope.specs.Scope.{Scope, is_empty, place, with_block}
+use Rattle.check_scope.specs.Scope.{Scope, is_empty, is_declared, with_local, place, with_block}
 use Rattle.program_laws.specs.Statements.{Stated, AllStated, in_order, int_at, condition}
-use Rattle.program_laws.specs.Statements.{simple, declarations, is_void, exprs, printed}
+use Rattle.program_laws.specs.Statements.{simple, declarations, exprs, printed}
 use Rattle.program_laws.specs.Statements.{in_loop_only, returned, bare_return, return_meaning}
 use Rattle.program_laws.specs.Statements.{Tested, for_test, for_step, for_made, looped}
-use Rattle.program_laws.specs.Statements.{left, closed, statement, statements}
+use Rattle.program_laws.specs.Statements.{item_kind, head_kind, taken_item, auto_item}
+use Rattle.program_laws.specs.Statements.{local_item, left, closed, statement, statements}
 use Rattle.expr_laws.proofs.NameFiles.{TypedLies}
 use Rattle.expr_laws.proofs.OperationFiles.{taken_lies}
 use Rattle.expr_laws.proofs.ExprFiles.{ValuedIn, AllIn, inside, values_in, typing_in}
@@ -145,6 +149,29 @@ module _ (files f : ℕ) (known : f < files) (t : Table) where
   in_block (gives y) next so go = go (left y.stmt y.scope) so
   in_block (refused why) next so go = so
 
+  -- the name of the items of an array
+  taken_item_in : (s : Scope) → s.file ≡ f → (l : ℕ) (item local : Option Kind)
+      → InFile f (taken_item t.parents s l item local)
+  taken_item_in s here l (Some j) (Some k) = if_in f (kind_fits t.parents j k) _ _ tt here
+  taken_item_in s here l None local = here
+  taken_item_in s here l (Some j) None = here
+
+  auto_item_in : (s : Scope) → s.file ≡ f → (l : ℕ) (h : DeclHead) (brackets : ℕ)
+      (item : Option Kind) → InFile f (auto_item s l h brackets item)
+  auto_item_in s here l h brackets None = here
+  auto_item_in s here l h brackets (Some k) =
+      if_in f (h.is_reference || nat_lt 0 brackets) _ _ here tt
+
+  item_in : (s : Scope) → s.file ≡ f → (l : ℕ) (h : DeclHead) (n : Name) (brackets : ℕ)
+      (item : Option Kind) (base : Option Base)
+      → InFile f (local_item t s l h n brackets item base)
+  item_in s here l h n brackets item None =
+      if_in f (is_declared s n) _ _ here (auto_item_in s here l h brackets item)
+  item_in s here l h n brackets item (Some b) =
+      if_in f (is_unknown (named_by t s.file b)) _ _ here
+      (if_in f (is_declared s n) _ _ here
+      (taken_item_in s here l item (head_kind h (named_by t s.file b) brackets)))
+
   mutual
     pub statement_in : (o : Surroundings) (s : Scope) → s.file ≡ f → (x : Stmt)
         → Placed S f (statement t o s x)
@@ -206,6 +233,16 @@ module _ (files f : ℕ) (known : f < files) (t : Table) where
           made_lies files test.test start.stmt step.stmt body.stmt (place body.scope l) second.1
               first.1 third.1 last.1 (within body.scope last.0),
         )))))
+    statement_in o s here (tree.for_each l h n brackets a b) =
+        placed_then V S f (typing t (with_block s) a) _
+        (typing_in files f known t (with_block s) here a) (λ x so.
+        placed_then (λ k. Unit {0}) S f
+        (local_item t x.scope l h n brackets (item_kind x.typed.kind) h.base) _
+        (item_in x.scope so.0 l h n brackets (item_kind x.typed.kind) h.base) (λ k _.
+        let u = with_local x.scope n k in
+        in_block (statement t (looped o) (with_block u) b) _
+        (statement_in (looped o) (with_block u) so.0 b)
+        (λ y too. (too.0, (so.1.0, too.1, within y.scope too.0)))))
     statement_in o s here (tree.repeat l c a) =
         placed_then V S f (condition t s l c) _ (condition_in s here l c) (λ x so.
         in_block (statement t (looped o) (with_block x.scope) a) _

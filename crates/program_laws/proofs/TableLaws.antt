@@ -5,12 +5,12 @@ use Rattle.ck_syntax.specs.Tree.{Name}
 use Rattle.type_rules.specs.Fitting.{is_below}
 use Rattle.type_table.specs.declared.table.Member.{Member}
 use Rattle.type_table.specs.Finished.{all_fields, all_slots, finished_class, finished_classes}
-use Rattle.type_table.specs.Table.{Table, fun_of, line, member_named, parent}
+use Rattle.type_table.specs.Table.{Table, fun_of, line, member_named, parent, construct}
 use Rattle.type_table.proofs.Ranges.{Each, ValueIn, many}
 use Rattle.first_walk.proofs.TableFacts.{SameTypes, IsNamed}
 use Rattle.first_walk.proofs.Below.{IsBelowBy}
 
--- a slot's function is a member of the class or of an ancestor
+-- a function takes an object of the class or of an ancestor: that of a slot, or a constructor
 abbrev pub IsSlotOf : Table → (owners : List (Option ℕ)) → (class fun : ℕ) → Type 0
 IsSlotOf t owners c g = (a : ℕ) × (slice_get owners g ≡ Some (Some a)) × IsBelowBy t.parents c a
 
@@ -29,6 +29,7 @@ pub record ClassLaws (t : Table) (owners : List (Option ℕ)) : Type 0 where
   pub slots_extend : (c s g : ℕ) → c < many t
       → slice_get (all_slots t (line t (parent t c))) s ≡ Some g → KeepsSlot t c s g
   pub virtuals_are : (c : ℕ) → c < many t → Each (IsSlotOf t owners c) (all_slots t (line t c))
+  pub maker_is : (c f : ℕ) → c < many t → construct t c ≡ Some f → IsSlotOf t owners c f
   pub member_is : (c : ℕ) (n : Name) (m : Member) → c < many t → member_named t c n ≡ Some m
       → IsNamed t owners c m
 

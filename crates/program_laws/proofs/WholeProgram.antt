@@ -1,27 +1,32 @@
 -- What is typed is well formed: file by file, and then the whole program.
-use Rattle.std.proofs.Common.{◌≡◌, ℕ, ◌+◌, ◌≤◌, List, [], ◌∷◌, ◌++◌, length, Option, Some, None}
+use Rattle.std.proofs.Common.{◌≡◌, ℕ, ◌+◌, ◌≤◌, List, [], ◌∷◌, ◌++◌, length, map, Option, Some, None}
 use Rattle.std.proofs.Common.{slice_get, refl, sym, ap, ◌∙◌, subst, arith, length-append}
+use Rattle.ck_values.specs.declared.kind.Kind.{Kind}
 use Rattle.ck_values.specs.declared.kind.Kind.TheVariants.{Void}
+use Rattle.ck_typed.specs.Standing.{given}
 use Rattle.ck_base.specs.declared.limits.TheConstants.{MAX_FILES}
 use Rattle.ck_syntax.specs.Tree as tree
 use Rattle.ck_typed.specs.Tree.{Fun, Program}
 use Rattle.type_table.specs.Answer.{Answer, gives, refused, and_then}
 use Rattle.first_walk.specs.FirstWalk.{entered}
-use Rattle.type_table.specs.Table.{Table, file_of}
-use Rattle.type_table.proofs.Ranges.{Each, Within}
+use Rattle.type_table.specs.Table.{Table, file_of, settled_statics, with_settled}
+use Rattle.type_table.proofs.Ranges.{Each, Within, ValueIn, many}
 use Rattle.first_walk.proofs.TableFacts.{Entry, file_entries, heads_of, owners_of, IsTable, IsLater}
 use Rattle.program_laws.specs.Programs.{Walked, Checked, none_checked, fun_made, items_typed}
 use Rattle.program_laws.specs.Programs.{file_funs, with_file_funs, file_checked, files_from}
-use Rattle.program_laws.specs.Programs.{program_of, checked}
+use Rattle.program_laws.specs.Programs.{program_of, checked, settled_by}
 use Rattle.ck_typed.specs.WellFormed.{FoundWhere, FunLies, IsFineFun, IsMain, IsWellFormed}
 use Rattle.program_laws.proofs.FileLaws.{IsEnteredFile, IsTypedFile, FileLaws}
 use Rattle.program_laws.proofs.FineClasses.{values_of, classes, object, event}
 use Rattle.program_laws.proofs.Found.{found_where, found_within, found_behind, all_within}
 use Rattle.program_laws.proofs.Found.{front_within, within_trans, each_more, each_append, all_of}
 use Rattle.program_laws.proofs.Found.{map_append, map_within, map_length, zip_append, zip_length}
-use Rattle.program_laws.proofs.Known.{IsNumbered, later_self, has}
+use Rattle.program_laws.proofs.Known.{IsNumbered, with_statics, later_self, has}
 use Rattle.program_laws.proofs.Parallel.{Matches}
 use Rattle.program_laws.proofs.ProgramFiles.{FunsLie, found_lies}
+use Rattle.program_laws.proofs.SettledTables.{HasKind, Settling, kinds_stay, settled_kinds, given_stays}
+use Rattle.program_laws.proofs.SettledTables.{given_values, file_settling, is_behind, settled_table}
+use Rattle.expr_laws.proofs.Premises.{HasSettled, IsSettled}
 
 -- what was found goes on
 pub then_gives : {A B : Type 0} (a : Answer A) (next : A → Answer B) (b : B)
@@ -39,7 +44,7 @@ later_trans t u v first second =
       more = omega (arith, first.more, second.more);
       parents = λ c lt. second.parents c (omega (arith, lt, first.more)) ∙ first.parents c lt;
       funs = within_trans t.funs u.funs v.funs first.funs second.funs;
-      statics = within_trans t.statics u.statics v.statics first.statics second.statics;
+      statics = λ i k is some. second.statics i k (first.statics i k is some) some;
       classes =
           λ c lt. let one = first.classes c lt in let two =
           second.classes c (omega (arith, lt, first.more)) in
@@ -50,6 +55,7 @@ later_trans t u v first second =
                 two.fields ∙ one.fields;
             slots = two.slots ∙ one.slots;
             body = two.body ∙ one.body;
+            constructor_same = two.constructor_same ∙ one.constructor_same;
           };
     }
 
@@ -111,8 +117,12 @@ module _ (laws : FileLaws) where
     pub is_table : IsTable u (owners_of (entries ++ file_entries u n raw))
     is_table = subst (IsTable u) (sym owners_are) is_entered.table
 
-    pub next_numbered : IsNumbered (with_file_funs c n u w) (entries ++ file_entries u n raw)
-    next_numbered =
+    -- before anything is settled
+    abbrev pub so_far : Checked
+    so_far = record { table = u; funs = c.funs ++ file_funs w; mains = c.mains }
+
+    pub entered_numbered : IsNumbered so_far (entries ++ file_entries u n raw)
+    entered_numbered =
         record {
           table = is_table;
           heads =
@@ -122,6 +132,42 @@ module _ (laws : FileLaws) where
           functions =
               zip_append Matches c.funs (file_funs w) entries
               (file_entries u n raw) before.numbered.functions is_typed.functions;
+        }
+
+    pub settling : Settling u.statics (settled_by w)
+    settling =
+        file_settling u (owners_of (entries ++ file_entries u n raw)) is_table is_typed.settles tt
+
+    pub behind : IsLater u (with_settled u (settled_by w))
+    behind =
+        is_behind u (owners_of (entries ++ file_entries u n raw)) is_table (settled_by w) settling
+
+    -- what is settled is of kinds that values have: so it is in a program that has it
+    pub settled_values : Each (λ (one : ℕ × Kind). ValueIn (many u) one.1) (settled_by w)
+    settled_values =
+        let statics = settled_statics u.statics (settled_by w) in
+        let p : Program = with_statics so_far statics in
+        let owners = owners_of (entries ++ file_entries u n raw) in
+        let of_classes = laws.classes u owners is_table in
+        let same =
+        laws.later u u owners owners is_table is_table (all_within owners) (later_self u) in
+        each_more (HasSettled p u) (λ (one : ℕ × Kind). ValueIn (many u) one.1) (settled_by w)
+        (λ one is. is.1)
+        (is_typed.fine p
+        (has so_far (entries ++ file_entries u n raw) entered_numbered u owners is_table
+        (all_within owners) (later_self u) statics
+        (kinds_stay u.statics (settled_by w) settling) of_classes of_classes same)
+        (each_more (HasKind statics) (IsSettled p) (settled_by w) (λ one is. is.0)
+        (settled_kinds u.statics (settled_by w) settling))).1
+
+    pub next_numbered : IsNumbered (with_file_funs c n u w) (entries ++ file_entries u n raw)
+    next_numbered =
+        record {
+          table =
+              settled_table u (owners_of (entries ++ file_entries u n raw)) is_table (settled_by w)
+              settling settled_values;
+          heads = entered_numbered.heads;
+          functions = entered_numbered.functions;
         }
 
     -- the function of the file's statements comes behind those of the earlier files
@@ -146,21 +192,29 @@ module _ (laws : FileLaws) where
         )
 
     pub next_funs : (d : Checked) (all : List Entry) → IsNumbered d all
-        → Within (entries ++ file_entries u n raw) all → IsLater u d.table
+        → Within (entries ++ file_entries u n raw) all
+        → IsLater (with_settled u (settled_by w)) d.table
         → Each (IsFineFun (program_of d)) (c.funs ++ file_funs w)
     next_funs d all numbered within later =
         let owners = owners_of (entries ++ file_entries u n raw) in
         let owners_within : Within owners (owners_of all) =
         map_within (λ (e : Entry). e.1) (entries ++ file_entries u n raw) all within in
+        let later_on : IsLater u d.table =
+        later_trans u (with_settled u (settled_by w)) d.table behind later in
+        let statics = settled_statics u.statics (settled_by w) in
         each_append (IsFineFun (program_of d)) c.funs (file_funs w)
         (before.funs d all numbered
         (within_trans entries (entries ++ file_entries u n raw) all
         (front_within entries (file_entries u n raw)) within)
-        (later_trans c.table u d.table is_entered.later later))
+        (later_trans c.table u d.table is_entered.later later_on))
         (is_typed.fine (program_of d)
-        (has d all numbered u owners is_table owners_within later
+        (has d all numbered u owners is_table owners_within later_on (map given d.table.statics)
+        (given_stays u.statics d.table.statics later_on.statics)
         (laws.classes d.table (owners_of all) numbered.table) (laws.classes u owners is_table)
-        (laws.later u d.table owners (owners_of all) is_table numbered.table owners_within later)))
+        (laws.later u d.table owners (owners_of all) is_table numbered.table owners_within later_on))
+        (each_more (HasKind statics) (IsSettled (program_of d)) (settled_by w)
+        (λ one is. given_stays statics d.table.statics later.statics one.0 one.1 is.0 is.1)
+        (settled_kinds u.statics (settled_by w) settling))).0
 
     pub after_file : IsAfter (n + 1) (with_file_funs c n u w) (entries ++ file_entries u n raw)
     after_file =
@@ -219,8 +273,8 @@ module _ (laws : FileLaws) where
             all_of (FunLies (length c.mains)) c.funs
             (subst (λ k. FunsLie k c.funs) (sym after.count) lie);
         statics =
-            values_of c entries after.numbered of_classes same c.table.statics
-            after.numbered.table.statics;
+            values_of c entries after.numbered of_classes same (map given c.table.statics)
+            (given_values (many c.table) c.table.statics after.numbered.table.statics);
         classes = classes c entries after.numbered of_classes same;
         object = object c entries after.numbered of_classes same;
         event = event c entries after.numbered of_classes same;

@@ -1,6 +1,6 @@
 -- Whole programs: the second walk of each file types its statements, the bodies of its functions
 -- and the members of its classes in text order.
-use Rattle.std.specs.Prelude.{ℕ, ◌+◌, Bool, true, false, List, [], ◌∷◌, ◌++◌, length, codes, Option}
+use Rattle.std.specs.Prelude.{ℕ, ◌+◌, Bool, true, false, List, [], ◌∷◌, ◌++◌, length, map, codes, Option}
 use Rattle.std.specs.Prelude.{Some, None, slice_get, if◌then◌else◌}
 use Rattle.ck_values.specs.declared.kind.Elem.TheVariants as elem
 use Rattle.ck_values.specs.declared.kind.Kind.{Kind}
@@ -13,7 +13,7 @@ use Rattle.ck_typed.specs.Standing.{given}
 use Rattle.ck_typed.specs.Tree as typed
 use Rattle.type_table.specs.Answer.{Answer, gives, and_then, wrong}
 use Rattle.type_table.specs.declared.fault.FaultKind.TheVariants.{Duplicate}
-use Rattle.type_table.specs.Table.{Table, file_of, fun_of, new_table}
+use Rattle.type_table.specs.Table.{Table, file_of, fun_of, new_table, with_settled}
 use Rattle.first_walk.specs.FirstWalk.{entered, own_class, has_statement}
 use Rattle.type_table.specs.Finished.{finished_classes}
 use Rattle.check_scope.specs.Scope.{Scope, new_scope, or_void, place, is_declared, with_local}
@@ -29,9 +29,11 @@ use Rattle.program_laws.specs.Statements.{statements}
 abbrev pub with_this : Scope → (class : ℕ) → Scope
 with_this s c = with_local s (codes "this") (One (elem.Class c))
 
-abbrev pub fun_scope : (file : ℕ) → (class : Option ℕ) → (fun : ℕ) → (is_static : Bool) → Scope
-fun_scope file (Some c) f false = with_this (new_scope file (Some c) (Some f)) c
-fun_scope file class f is_static = new_scope file class (Some f)
+-- what declarations with `auto` settled before is known in it
+abbrev pub fun_scope : (file : ℕ) → (class : Option ℕ) → (fun : ℕ) → (is_static : Bool)
+    → (settled : List (ℕ × Kind)) → Scope
+fun_scope file (Some c) f false settled = with_this (new_scope file (Some c) (Some f) settled) c
+fun_scope file class f is_static settled = new_scope file class (Some f) settled
 
 -- parameters are declared in their order, with the types of their function's head; two of one name
 -- are a fault of the function
@@ -73,10 +75,18 @@ fun_with t f l body s =
     and_then (statements t (in_fun (fun_of t f).result) (with_block s) body) (λ all.
     gives (fun_made (length s.locals) (fun_of t f).result l all))
 
-abbrev pub fun_typed : Table → (file : ℕ) → (class : Option ℕ) → (number : ℕ) → tree.Fun
-    → Answer typed.Fun
-fun_typed t file class f (tree.fun l is_static result n ps body) =
-    and_then (with_params (fun_of t f).params (fun_scope file class f is_static) l ps) (λ s.
+-- a constructor isn't static
+abbrev pub is_static : tree.Fun → Bool
+is_static (tree.fun l static result n ps body) = static
+is_static (tree.constructor l ps body) = false
+
+abbrev pub fun_typed : Table → (file : ℕ) → (class : Option ℕ) → (number : ℕ)
+    → (settled : List (ℕ × Kind)) → tree.Fun → Answer typed.Fun
+fun_typed t file class f settled (tree.fun l static result n ps body) =
+    and_then (with_params (fun_of t f).params (fun_scope file class f static settled) l ps) (λ s.
+    fun_with t f l body s)
+fun_typed t file class f settled (tree.constructor l ps body) =
+    and_then (with_params (fun_of t f).params (fun_scope file class f false settled) l ps) (λ s.
     fun_with t f l body s)
 
 -- classes and files -----------------------------------------------------------------------------
@@ -98,16 +108,22 @@ and_statement t w s =
 abbrev pub and_fun : Walked → typed.Fun → Walked
 and_fun w f = record w { funs = w.funs ++ f ∷ [] }
 
+-- what was settled so far
+abbrev pub settled_by : Walked → List (ℕ × Kind)
+settled_by w = w.stated.scope.settled
+
 -- functions are numbered in text order, from the first on
 abbrev pub and_member_typed : Table → (file class first : ℕ) → Walked → tree.Member → Answer Walked
 and_member_typed t file c first w (stmt_member s) = and_statement t w s
 and_member_typed t file c first w (fun_member f) =
-    and_then (fun_typed t file (Some c) (first + length w.funs) f) (λ g. gives (and_fun w g))
+    and_then (fun_typed t file (Some c) (first + length w.funs) (settled_by w) f) (λ g. gives (and_fun w g))
 
-abbrev pub members_typed : Table → (file class first : ℕ) → Members → Answer Walked
-members_typed t file c first no_members = gives (begun (with_this (new_scope file (Some c) None) c))
-members_typed t file c first (and_member ms m) =
-    and_then (members_typed t file c first ms) (λ w.
+abbrev pub members_typed : Table → (file class first : ℕ) → (settled : List (ℕ × Kind)) → Members
+    → Answer Walked
+members_typed t file c first settled no_members =
+    gives (begun (with_this (new_scope file (Some c) None settled) c))
+members_typed t file c first settled (and_member ms m) =
+    and_then (members_typed t file c first settled ms) (λ w.
     and_member_typed t file c first w m)
 
 -- the function of the statements in the braces comes first, where there are any; its one parameter
@@ -120,9 +136,11 @@ abbrev pub first_method : (has_body : Bool) → (first : ℕ) → ℕ
 first_method true first = first + 1
 first_method false first = first
 
-abbrev pub class_typed : Table → (file first : ℕ) → tree.Class → Answer (List typed.Fun)
-class_typed t file first (tree.class l is_public n parent ms) =
-    and_then (members_typed t file (own_class t file n) (first_method (has_statement ms) first) ms)
+abbrev pub class_typed : Table → (file first : ℕ) → (settled : List (ℕ × Kind)) → tree.Class
+    → Answer (List typed.Fun)
+class_typed t file first settled (tree.class l is_public n parent ms) =
+    and_then
+    (members_typed t file (own_class t file n) (first_method (has_statement ms) first) settled ms)
     (λ w.
     gives (class_funs (has_statement ms) l w))
 
@@ -136,12 +154,12 @@ next_fun t file w = (file_of t file).main + 1 + length w.funs
 abbrev pub and_item_typed : Table → (file : ℕ) → Walked → tree.Item → Answer Walked
 and_item_typed t file w (stmt_item s) = and_statement t w s
 and_item_typed t file w (fun_item f) =
-    and_then (fun_typed t file None (next_fun t file w) f) (λ g. gives (and_fun w g))
+    and_then (fun_typed t file None (next_fun t file w) (settled_by w) f) (λ g. gives (and_fun w g))
 and_item_typed t file w (class_item c) =
-    and_then (class_typed t file (next_fun t file w) c) (λ fs. gives (and_funs w fs))
+    and_then (class_typed t file (next_fun t file w) (settled_by w) c) (λ fs. gives (and_funs w fs))
 
 abbrev pub items_typed : Table → (file : ℕ) → tree.File → Answer Walked
-items_typed t file no_items = gives (begun (new_scope file None None))
+items_typed t file no_items = gives (begun (new_scope file None None []))
 items_typed t file (and_item xs x) =
     and_then (items_typed t file xs) (λ w.
     and_item_typed t file w x)
@@ -152,7 +170,8 @@ file_funs w = fun_made 0 Void 1 w.stated ∷ w.funs
 
 -- programs --------------------------------------------------------------------------------------
 
--- what the files so far declare, their functions, and of each the function of its statements
+-- what the files so far declare, their functions, and of each the function of its statements; what
+-- was settled in a file stands in the table behind it
 pub record Checked : Type 0 where
   pub table : Table
   pub funs : List typed.Fun
@@ -164,7 +183,7 @@ none_checked = record { table = new_table; funs = []; mains = [] }
 abbrev pub with_file_funs : Checked → (file : ℕ) → Table → Walked → Checked
 with_file_funs c file t w =
     record {
-      table = t;
+      table = with_settled t (settled_by w);
       funs = c.funs ++ file_funs w;
       mains =
           c.mains ++ (file_of t file).main ∷ [];
@@ -190,7 +209,7 @@ program_of c =
       classes = finished_classes c.table;
       funs = c.funs;
       statics =
-          c.table.statics;
+          map given c.table.statics;
       mains = c.mains;
     }
 

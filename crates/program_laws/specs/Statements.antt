@@ -1,23 +1,32 @@
 -- What statements become. The parts of a statement come first, in text order, and then the
 -- statement itself.
-use Rattle.std.specs.Prelude.{ℕ, pos, Bool, true, false, ◌||◌, List, [], ◌∷◌, ◌++◌, map, Option}
+use Rattle.std.specs.Prelude.{ℕ, pos, nat_lt, Bool, true, false, ◌&&◌, ◌||◌, not, List, [], ◌∷◌, ◌++◌, length, map, Option}
 use Rattle.std.specs.Prelude.{Some, None, if◌then◌else◌}
 use Rattle.std.specs.List.{list_any}
+use Rattle.ck_values.specs.declared.kind.Elem.{Elem}
+use Rattle.ck_values.specs.declared.kind.Elem.TheVariants as elem
 use Rattle.ck_values.specs.declared.kind.Kind.{Kind}
-use Rattle.ck_values.specs.declared.kind.Kind.TheVariants.{Void}
+use Rattle.ck_values.specs.declared.kind.Kind.TheVariants.{Void, One, Row, Grid}
 use Rattle.ck_values.specs.declared.trap.Place.{Place}
+use Rattle.ck_syntax.specs.declared.declaration.Base.{Base}
 use Rattle.ck_syntax.specs.declared.declaration.DeclHead.{DeclHead}
 use Rattle.ck_syntax.specs.Tree as tree
-use Rattle.ck_syntax.specs.Tree.{Expr, expr_line, Declrs, no_declrs, and_declr, Stmt, Stmts}
+use Rattle.ck_syntax.specs.Tree.{Name, Expr, expr_line, Declrs, no_declrs, and_declr, Stmt, Stmts}
 use Rattle.ck_syntax.specs.Tree.{no_stmts, and_stmt}
 use Rattle.ck_typed.specs.declared.operation.Leaf.TheVariants as leaf
 use Rattle.ck_typed.specs.Tree as typed
+use Rattle.type_rules.specs.Fitting.{is_reference, kind_fits}
 use Rattle.type_table.specs.Answer.{Answer, gives, and_then, wrong}
-use Rattle.type_table.specs.declared.fault.FaultKind.TheVariants.{Mismatch, BadPlace}
+use Rattle.type_table.specs.declared.fault.FaultKind.TheVariants.{UnknownName, Duplicate, Mismatch}
+use Rattle.type_table.specs.declared.fault.FaultKind.TheVariants.{BadPlace}
+use Rattle.type_table.specs.declared.types.Named.{Named}
+use Rattle.type_table.specs.declared.types.Named.TheVariants as named
 use Rattle.type_table.specs.Table.{Table}
+use Rattle.type_table.specs.Types.{named_by, is_unknown, is_shred, kind_of}
 use Rattle.check_scope.specs.Expressions.{Valued, AllValued, fits, taken_as, is_int, values, typing}
-use Rattle.check_scope.specs.Denotations.{Typed}
-use Rattle.check_scope.specs.Scope.{Scope, is_empty, place, with_block, without_block}
+use Rattle.check_scope.specs.Denotations.{Typed, is_void}
+use Rattle.check_scope.specs.Scope.{Scope, is_empty, is_declared, with_local, place, with_block}
+use Rattle.check_scope.specs.Scope.{without_block}
 use Rattle.program_laws.specs.declared.surroundings.Surroundings.{Surroundings}
 
 -- a typed statement, and the scope behind it
@@ -78,10 +87,6 @@ declarations t s l h (and_declr ds d) =
     gives (and_stated all (simple l x))))
 
 -- prints ----------------------------------------------------------------------------------------
-
-abbrev pub is_void : Kind → Bool
-is_void Void = true
-is_void _ = false
 
 abbrev pub exprs : List Typed → typed.Exprs
 exprs [] = typed.no_exprs
@@ -149,6 +154,53 @@ abbrev pub for_made : Option typed.Expr → (start step body : typed.Stmt) → P
 for_made None start step body p = typed.ForEver start step body p
 for_made (Some test) start step body p = typed.For start test step body p
 
+-- `for` over an array ---------------------------------------------------------------------------
+
+-- the kind of an array's items
+abbrev pub item_kind : Kind → Option Kind
+item_kind (Row e) = Some (One e)
+item_kind (Grid e) = Some (Row e)
+item_kind _ = None
+
+-- `@` is for what may be a reference
+abbrev pub may_have_at : Elem → (brackets : ℕ) → Bool
+may_have_at e brackets = nat_lt 0 brackets || is_reference e || is_shred e
+
+-- the kind that the head of a `for` gives the name of its items; no object is made
+abbrev pub head_kind : DeclHead → Named → (brackets : ℕ) → Option Kind
+head_kind h (named.Elem e) brackets =
+    if h.is_reference && not (may_have_at e brackets) then None else kind_of e brackets
+head_kind h _ brackets = None
+
+-- an item fits its name
+abbrev pub taken_item : (parents : List ℕ) → Scope → (line : ℕ) → (item local : Option Kind)
+    → Answer Kind
+taken_item parents s l (Some j) (Some k) =
+    if kind_fits parents j k then gives k else wrong s.file l Mismatch
+taken_item parents s l _ _ = wrong s.file l Mismatch
+
+-- or its name takes the kind of the items; then it is written with nothing but that
+abbrev pub auto_item : Scope → (line : ℕ) → DeclHead → (brackets : ℕ) → (item : Option Kind)
+    → Answer Kind
+auto_item s l h brackets None = wrong s.file l Mismatch
+auto_item s l h brackets (Some k) =
+    if h.is_reference || nat_lt 0 brackets then wrong s.file l BadPlace else gives k
+
+-- the name stands in the block of the loop, and so do those that the array declares
+abbrev pub local_item : Table → Scope → (line : ℕ) → DeclHead → Name → (brackets : ℕ)
+    → (item : Option Kind) → Option Base → Answer Kind
+local_item t s l h n brackets item None =
+    if is_declared s n then wrong s.file l Duplicate else auto_item s l h brackets item
+local_item t s l h n brackets item (Some b) =
+    if is_unknown (named_by t s.file b) then wrong s.file l UnknownName
+    else if is_declared s n then wrong s.file l Duplicate
+    else taken_item t.parents s l item (head_kind h (named_by t s.file b) brackets)
+
+-- an int is widened to a float
+abbrev pub widens : (array local : Kind) → Bool
+widens (Row elem.Int) (One elem.Float) = true
+widens _ _ = false
+
 -- all statements --------------------------------------------------------------------------------
 
 -- in a loop of the same function
@@ -197,6 +249,14 @@ abbrev mutual
       and_then (for_step t y.scope e) (λ z.
       and_then (closed (statement t (looped o) (with_block z.scope) b)) (λ w.
       gives (left (for_made y.test x.stmt z.stmt w.stmt (place w.scope l)) w.scope)))))
+  statement t o s (tree.for_each l h n brackets a b) =
+      and_then (typing t (with_block s) a) (λ x.
+      and_then (local_item t x.scope l h n brackets (item_kind x.typed.kind) h.base) (λ k.
+      and_then (closed (statement t (looped o) (with_block (with_local x.scope n k)) b)) (λ y.
+      gives (left
+      (typed.ForEach x.typed.expr (length x.scope.locals) (widens x.typed.kind k) y.stmt
+      (place y.scope l))
+      y.scope))))
   statement t o s (tree.repeat l n a) =
       and_then (condition t s l n) (λ x.
       and_then (closed (statement t (looped o) (with_block x.scope) a)) (λ y.

@@ -13,14 +13,14 @@ use Rattle.ck_typed.specs.Tree as typed
 use Rattle.type_table.specs.Answer.{Answer, gives, refused, and_then, wrong}
 use Rattle.type_table.specs.declared.fault.FaultKind.TheVariants.{Mismatch}
 use Rattle.type_table.specs.Table.{Table}
-use Rattle.check_scope.specs.Denotations.{Typed}
+use Rattle.check_scope.specs.Denotations.{Typed, is_void}
 use Rattle.check_scope.specs.Expressions as e
 use Rattle.check_scope.specs.Expressions.{Valued, AllValued, typing, values, is_int}
-use Rattle.check_scope.specs.Scope.{Scope, is_empty, place, with_block}
+use Rattle.check_scope.specs.Scope.{Scope, is_empty, place, with_block, with_local}
 use Rattle.program_laws.specs.declared.surroundings.Surroundings.{Surroundings}
-use Rattle.program_laws.specs.Statements.{Stated, AllStated, in_order, condition, declarations, is_void}
+use Rattle.program_laws.specs.Statements.{Stated, AllStated, in_order, condition, declarations}
 use Rattle.program_laws.specs.Statements.{exprs, printed, in_loop_only, returned, bare_return, return_meaning, Tested}
-use Rattle.program_laws.specs.Statements.{for_test, for_step, for_made, looped, left, closed, statement, statements}
+use Rattle.program_laws.specs.Statements.{for_test, for_step, for_made, item_kind, local_item, looped, left, closed, statement, statements}
 use Rattle.expr_laws.proofs.Oks.{ok_then, ok_if}
 use Rattle.expr_laws.proofs.Premises.{Ok}
 use Rattle.expr_steps.specs.Tokens.{token_steps}
@@ -191,6 +191,13 @@ module _ (t : Table) where
         in_block (stmt_size b) all (statement t (looped o) (with_block step.scope) b) _
         (statement_costs (looped o) (with_block step.scope) b) (λ body last.
         omega (arith, made_most test.test start.stmt step.stmt body.stmt (place body.scope l))))))
+    statement_costs o s (tree.for_each l h n q a b) =
+        let all = stmt_size (tree.for_each l h n q a b) in
+        ok_then (ValueWithin (expr_size a)) (StatedWithin all) (typing t (with_block s) a) _
+        (typing_costs t (with_block s) a) (λ x few.
+        then_any (StatedWithin all) (local_item t x.scope l h n q (item_kind x.typed.kind) h.base) _ (λ k.
+        in_block (stmt_size b) all (statement t (looped o) (with_block (with_local x.scope n k)) b) _
+        (statement_costs (looped o) (with_block (with_local x.scope n k)) b) (λ y less. omega arith)))
     statement_costs o s (tree.repeat l c a) =
         let all = stmt_size (tree.repeat l c a) in
         on_condition s l c all _ (λ x few.

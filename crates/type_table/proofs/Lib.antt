@@ -17,3 +17,4 @@ pub mod OwnerFacts
 pub mod MarkFacts
 pub mod BelowFacts
 pub mod TakingFacts
+pub mod Given

@@ -12,7 +12,7 @@ use Rattle.ck_syntax.specs.declared.file.Member.{Member}
 use Rattle.ck_syntax.specs.Size.{head_size, expr_size, exprs_size, before_comma, bracketed_size, brackets_size, declr_size, declrs_size, declrs_before_comma, member_size, members_size, item_size, items_size}
 use Rattle.ck_syntax.specs.Tree.{Exprs, no_exprs, and_expr, Brackets, no_brackets, and_empty, and_size, Declrs, no_declrs, and_declr, Members, no_members, and_member, File, no_items, and_item}
 use Rattle.ck_syntax.specs.View.{view_expr, view_kind, exprs_of, with_bracket, brackets_of, view_declr, declrs_of, view_member, members_of, view_item, items_of}
-use Rattle.ck_syntax.proofs.Views.{view-Array, view-Call, view-New, view-Declare}
+use Rattle.ck_syntax.proofs.Views.{view-Array, view-Call, view-New, view-NewWith, view-Declare}
 
 -- the sizes of all items together
 abbrev pub weight : {X : Type 0} → (X → ℕ) → List X → ℕ
@@ -101,6 +101,11 @@ module _ (e : Expr) where
       → expr_size (view_expr e) ≡ bracketed_size (exprs_of no_exprs es) + 2
   new_size b es is =
       ap (λ k. expr_size (view_kind e.line k)) is ∙ ap expr_size (view-New e.line b es)
+
+  pub new_with_size : (b : Base) (es : List Expr) → e.kind ≡ raw.NewWith b es
+      → expr_size (view_expr e) ≡ exprs_size (exprs_of no_exprs es) + 4
+  new_with_size b es is =
+      ap (λ k. expr_size (view_kind e.line k)) is ∙ ap expr_size (view-NewWith e.line b es)
 
   pub declare_size : (h : DeclHead) (x : Box Declarator Global) → e.kind ≡ raw.Declare h x
       → expr_size (view_expr e) ≡ head_size h + declr_size (view_declr x.value)

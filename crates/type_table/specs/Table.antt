@@ -1,6 +1,7 @@
 -- The table of names: what the files entered so far declare, in plain lists, in the order of the
 -- text.
-use Rattle.std.specs.Prelude.{codes, ℕ, zero, suc, ◌+◌, Bool, true, false, nat_eq, nat_lt, List, [], ◌∷◌, length, drop, Option, Some, None, slice_get, if◌then◌else◌}
+use Rattle.std.specs.Prelude.{codes, ℕ, zero, suc, ◌+◌, Bool, true, false, nat_eq, nat_lt, List, [], ◌∷◌, length, drop, Option, Some, None, slice_get, slice_set, if◌then◌else◌}
+use Rattle.std.specs.Option.{option_map}
 use Rattle.ck_values.specs.declared.kind.Kind.{Kind}
 use Rattle.ck_values.specs.declared.kind.Kind.TheVariants.{Void}
 use Rattle.ck_base.specs.declared.limits.TheConstants.{MAX_ANCESTORS}
@@ -21,8 +22,8 @@ use Rattle.type_table.specs.Names.{lookup, and_first, or_else, built_in, as_clas
 -- A function's types: those of its parameters, without `this`, and of its result.
 -- A class: its name, its file, and whether it is public; the types of its functions as its text has
 -- them, where they are right; what of it was entered; the types of its own fields; how many virtual
--- slots it adds; and the function of the statements in its braces. A file: the function of its
--- statements, and its classes, functions and variables.
+-- slots it adds; the function of the statements in its braces; and its own constructor. A file: the
+-- function of its statements, and its classes, functions and variables.
 
 -- classes, functions, and file variables with static members are numbered in one row each;
 -- `publics` are the public classes of all files
@@ -57,6 +58,7 @@ no_class =
       fields = [];
       slots = 0;
       body = None;
+      constructor = None;
     }
 
 -- a class of which only its name is known; it stands below Object so far
@@ -150,6 +152,7 @@ slot_of t above n by.Override = Some (slot_in t above n)
 abbrev pub as_member : Table → (above : List ℕ) → Name → Own → Member
 as_member t above n (own.Field position kind) = member.Field (count_fields t above + position) kind
 as_member t above n (own.Static v) = member.Static v.index v.kind
+as_member t above n own.Auto = member.Auto
 as_member t above n (own.Fun f d) = member.Fun f (slot_of t above n d)
 
 abbrev pub own_member : Table → (above : List ℕ) → Name → Option Own →
@@ -166,6 +169,15 @@ member_in t (c ∷ above) n =
 -- the member of this name that a class declares, or the nearest of its ancestors
 abbrev pub member_named : Table → (class : ℕ) → Name → Option Member
 member_named t c n = member_in t (line t c) n
+
+-- the constructor of the first of these classes that has one
+abbrev pub construct_in : Table → List ℕ → Option ℕ
+construct_in t [] = None
+construct_in t (c ∷ above) = or_else (class_of t c).constructor (construct_in t above)
+
+-- what an object of a class is made by: its own constructor, or that of its nearest ancestor with one
+abbrev pub construct : Table → (class : ℕ) → Option ℕ
+construct t c = construct_in t (line t c)
 
 -- the function of this name that the nearest of these classes has by its text
 abbrev pub overridden : Table → (above : List ℕ) → Name → Option (Option Head)
@@ -187,6 +199,23 @@ class_named t f n =
 abbrev pub fun_named : Table → (file : ℕ) → Name → Option ℕ
 fun_named t f n = lookup n (file_of t f).funs
 
+-- the type of a file variable or a static member; that of a variable with `auto` is void until its
+-- declaration has settled it
+abbrev pub kind_or_void : Option Kind → Kind
+kind_or_void None = Void
+kind_or_void (Some k) = k
+
+abbrev pub static_at : Table → ℕ → Variable
+static_at t i = record { index = i; kind = kind_or_void (slice_get t.statics i) }
+
 -- the file variable of this name
 abbrev pub variable_named : Table → (file : ℕ) → Name → Option Variable
-variable_named t f n = lookup n (file_of t f).variables
+variable_named t f n = option_map (static_at t) (lookup n (file_of t f).variables)
+
+-- variables with `auto` get their types
+abbrev pub settled_statics : List Kind → List (ℕ × Kind) → List Kind
+settled_statics statics [] = statics
+settled_statics statics ((i, k) ∷ rest) = settled_statics (slice_set statics i k) rest
+
+abbrev pub with_settled : Table → List (ℕ × Kind) → Table
+with_settled t settled = record t { statics = settled_statics t.statics settled }

@@ -8,7 +8,7 @@ use Rattle.ugen_names.specs.declared.table.UgenKind.TheVariants.{UGen}
 use Rattle.ck_syntax.specs.declared.declaration.Base.{Base}
 use Rattle.ck_syntax.specs.declared.declaration.Base.TheVariants as base
 use Rattle.ck_syntax.specs.declared.declaration.DeclHead.{DeclHead}
-use Rattle.ck_syntax.specs.Tree.{Name, Brackets, no_brackets, and_empty, and_size}
+use Rattle.ck_syntax.specs.Tree.{Name, Brackets, no_brackets, and_empty, and_size, Declr, declr, declr_with}
 use Rattle.type_rules.specs.Fitting.{is_reference}
 use Rattle.type_table.specs.declared.built_ins.BuiltInName.{BuiltInName}
 use Rattle.type_table.specs.declared.built_ins.BuiltInName.TheVariants.{Elem as one, Module}
@@ -104,6 +104,17 @@ has_form h e bs = is_even bs && (if h.is_reference then takes_at e bs else can_b
 abbrev pub declared_kind : DeclHead → Named → Brackets → Option Kind
 declared_kind h (named.Elem e) bs = if has_form h e bs then kind_of e (count bs) else None
 declared_kind h _ bs = None
+
+-- an object of this type is made with arguments
+abbrev pub made_kind : Named → Option Kind
+made_kind (named.Elem e) =
+    if is_reference e && can_be_made e no_brackets then Some (kind.One e) else None
+made_kind _ = None
+
+-- the type that a declaration gives its name by what stands behind that
+abbrev pub written_kind : DeclHead → Named → Declr → Option Kind
+written_kind h named (declr n bs) = declared_kind h named bs
+written_kind h named (declr_with n es) = made_kind named
 
 -- a static member may have this type: a plain one, or another one with `@`
 abbrev pub may_be_static : DeclHead → Kind → Bool

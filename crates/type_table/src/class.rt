@@ -27,6 +27,8 @@ pub enum Own {
     Field { position: Count, kind: Kind },
     /// A static member.
     Static(Variable),
+    /// A declaration with `auto`, which can't stand there: only its name is taken.
+    Auto,
     /// A function by its number.
     Fun { fun: u32, dispatch: Dispatch },
 }
@@ -56,6 +58,8 @@ pub(crate) struct Class {
     pub slots: Count,
     /// The function of the statements in its braces.
     pub body: Option<u32>,
+    /// Its own constructor.
+    pub constructor: Option<u32>,
 }
 
 /// What the top level of a file declares.
@@ -65,7 +69,8 @@ pub struct FileNames {
     pub main: u32,
     pub classes: ByName<u32>,
     pub funs: ByName<u32>,
-    pub variables: ByName<Variable>,
+    /// The file variables, each by its number among all of them and the static members.
+    pub variables: ByName<u32>,
 }
 
 impl Head {
@@ -95,6 +100,7 @@ impl Class {
             fields: Fields::new(alloc),
             slots: Count::zero(),
             body: None,
+            constructor: None,
         }
     }
 }

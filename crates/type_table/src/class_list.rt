@@ -228,4 +228,16 @@ impl Classes {
             self.all[class as usize].body = Some(fun);
         }
     }
+
+    /// A class has this constructor of its own.
+    #[tactic(auto, using(crate::proofs::Changes::set_past))]
+    pub fn set_constructor(&mut self, class: u32, fun: u32)
+        ensures { self.new
+            ≡ with_class_at self.old class
+            (record (class_at self.old class) { constructor = Some fun }) }
+    {
+        if (class as usize) < self.all.len() {
+            self.all[class as usize].constructor = Some(fun);
+        }
+    }
 }

@@ -1,5 +1,6 @@
 //! What the table hands on once all files are entered.
-ghost use Rattle.std.specs.Prelude.{◌≡◌, ◌<◌, ◌^◌, length, IfOk, OnOk};
+ghost use Rattle.std.specs.Prelude.{◌≡◌, ◌<◌, ◌^◌, length, map, IfOk, OnOk};
+ghost use Rattle.ck_typed.specs.Standing.{given};
 ghost use Rattle.type_table.specs.Table.{class_of};
 ghost use Rattle.type_table.specs.Finished.{finished_class, finished_classes};
 ghost use Rattle.type_table.specs.Layouts.{AreFound};
@@ -8,7 +9,7 @@ use crate::fault::number;
 use crate::layout::{Layout, Layouts};
 use crate::table::Table;
 use ck_base::{List, Text};
-use ck_values::Kind;
+use ck_values::{Elem, Kind};
 use fixed_point::Memory;
 use std::alloc::Global;
 use std::mem;
@@ -19,6 +20,16 @@ use type_rules::is_below;
 pub struct Entered {
     pub classes: List<ck_typed::Class>,
     pub statics: List<Kind>,
+}
+
+/// The type of a static variable: one that nothing has settled is an int.
+fn given(kind: Kind) -> Kind
+    ensures { result ≡ given kind }
+{
+    match kind {
+        Kind::Void => Kind::One(Elem::Int),
+        _ => kind,
+    }
 }
 
 impl Table {
@@ -77,17 +88,21 @@ impl Table {
 
     /// The types of the file variables and static members, taken out of the table.
     fn take_statics(&mut self) -> List<Kind>
-        ensures { result ≡ self.old.statics }
+        ensures { result ≡ map given self.old.statics }
     {
         let alloc = *self.statics.allocator();
-        List::from_vec(mem::replace(&mut self.statics, Vec::new(alloc)))
+        let mut statics = mem::replace(&mut self.statics, Vec::new(alloc));
+        for i in 0..statics.len() {
+            statics[i] = given(statics[i]);
+        }
+        List::from_vec(statics)
     }
 
     /// Hands on what was entered: these classes, which are those of the table, and the types of the
-    /// file variables and static members.
+    /// file variables and static members. It takes no memory.
     pub fn finish(mut self, classes: List<ck_typed::Class>) -> Entered
         ensures classes { result.classes ≡ classes }
-        ensures statics { result.statics ≡ self.statics }
+        ensures statics { result.statics ≡ map given self.statics }
     {
         Entered {
             classes,

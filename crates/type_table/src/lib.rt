@@ -31,4 +31,6 @@ pub use finish::Entered;
 pub use names::ByName;
 pub use parent_list::Parents;
 pub use table::{Member, Table, Variable};
-pub use types::{Named, declared_kind, is_plain, may_be_static, result_kind, value_kind};
+pub use types::{
+    Named, declared_kind, is_plain, made_kind, may_be_static, result_kind, value_kind,
+};

@@ -4,7 +4,7 @@ ghost use Rattle.std.specs.Option.{option_copied};
 ghost use Rattle.ck_base.specs.declared.limits.TheConstants.{MAX_ANCESTORS, MAX_FILE_TOKENS};
 ghost use Rattle.type_rules.specs.Fitting.{parent_or};
 ghost use Rattle.type_table.specs.Names.{lookup};
-ghost use Rattle.type_table.specs.Table.{class_of, line, ancestors, overridden, count_fields, count_slots, slot_in, slot_of, as_member, member_in, member_named};
+ghost use Rattle.type_table.specs.Table.{class_of, line, ancestors, overridden, count_fields, count_slots, slot_in, slot_of, as_member, member_in, member_named, construct_in, construct};
 ghost use Rattle.type_table.specs.Lines.{classes_by, classes_of, above_by as above_in, above_of};
 ghost use Rattle.type_table.specs.Descendants.{ancestors_by as ancestors_in};
 
@@ -213,6 +213,7 @@ impl Table {
                 index: variable.index,
                 kind: variable.kind,
             },
+            Own::Auto => Member::Auto,
             Own::Fun { fun, dispatch } => Member::Fun {
                 fun: *fun,
                 slot: self.slot_of(above, name, dispatch),
@@ -241,6 +242,35 @@ impl Table {
         ensures { result ≡ member_named self.now class name.now }
     {
         self.member_in(self.whole_line(class), name.bytes())
+    }
+
+    /// The constructor of a class itself, a function by its number.
+    pub fn own_constructor(&self, class: u32) -> Option<u32>
+        ensures { result ≡ (class_of self.now class).constructor }
+    {
+        self.classes.get(class as usize)?.constructor
+    }
+
+    /// The constructor of the first class of a line that has one.
+    fn construct_in(&self, line: Line) -> Option<u32>
+        ensures { result ≡ construct_in self.now (classes_of self.now line) }
+    {
+        let above = self.above(line);
+        if let Some(fun) = self.own_constructor(line.class) {
+            return Some(fun);
+        }
+        match above {
+            Some(above) => self.construct_in(above),
+            None => None,
+        }
+    }
+
+    /// What an object of a class is made by, a function by its number: the class's own constructor,
+    /// or that of its nearest ancestor with one. It takes no memory.
+    pub fn construct(&self, class: u32) -> Option<u32>
+        ensures { result ≡ construct self.now class }
+    {
+        self.construct_in(self.whole_line(class))
     }
 
     /// What a class has under the name of a function by its text.

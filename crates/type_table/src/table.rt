@@ -1,8 +1,8 @@
 //! The table of names.
-ghost use Rattle.std.specs.Prelude.{◌≡◌, ◌<◌, length, slice_get, IfOk};
+ghost use Rattle.std.specs.Prelude.{◌≡◌, ◌<◌, [], ◌∷◌, length, slice_get, IfOk};
 ghost use Rattle.std.specs.Option.{option_copied};
 ghost use Rattle.type_table.specs.Names.{as_class, lookup, built_in as built_in_of};
-ghost use Rattle.type_table.specs.Table.{new_table, file_of, class_of, fun_of, parent as parent_of, seen_from, class_named, fun_named, variable_named};
+ghost use Rattle.type_table.specs.Table.{new_table, file_of, class_of, fun_of, parent as parent_of, seen_from, class_named, fun_named, variable_named, static_at, with_settled};
 
 use crate::built_ins::{BuiltInName, built_in};
 use crate::class::{FileNames, Head};
@@ -31,6 +31,8 @@ pub enum Member {
     Field { index: u32, kind: Kind },
     /// A static member by its number among all file variables and static members.
     Static { index: u32, kind: Kind },
+    /// A declaration with `auto`, which can't stand in a class.
+    Auto,
     /// A function by its number, with its virtual slot where it isn't static.
     Fun { fun: u32, slot: Option<u32> },
 }
@@ -47,7 +49,8 @@ pub struct Table {
     /// The public classes of all files.
     pub publics: ByName<u32>,
     pub funs: Vec<Head>,
-    /// The types of the file variables and static members.
+    /// The types of the file variables and static members; that of a variable with `auto` is void
+    /// until it is settled.
     pub statics: Vec<Kind>,
     pub files: Vec<FileNames>,
 }
@@ -160,13 +163,42 @@ impl Table {
         }
     }
 
-    /// The file variable of this name.
+    /// The file variable of this name. The type of one with `auto` is void until it is settled.
     pub fn variable(&self, file: u32, name: &Text) -> Option<Variable>
         ensures { result ≡ variable_named self.now file name.now }
     {
-        match self.files.get(file as usize) {
-            Some(names) => names.variables.get(name.bytes()).copied(),
-            None => None,
+        let names = self.files.get(file as usize)?;
+        let index = *names.variables.get(name.bytes())?;
+        Some(self.static_at(index))
+    }
+
+    /// A file variable or a static member by its number.
+    fn static_at(&self, index: u32) -> Variable
+        ensures { result ≡ static_at self.now index }
+    {
+        let kind = match self.statics.get(index as usize) {
+            Some(kind) => *kind,
+            None => Kind::Void,
+        };
+        Variable { index, kind }
+    }
+
+    /// A variable with `auto` gets its type. It takes no memory.
+    #[tactic(auto, using(crate::proofs::Changes::set_past))]
+    pub fn settle(&mut self, index: u32, kind: Kind)
+        ensures { self.new ≡ with_settled self.old ((index, kind) ∷ []) }
+    {
+        if (index as usize) < self.statics.len() {
+            self.statics[index as usize] = kind;
+        }
+    }
+
+    /// Variables with `auto` get their types, one after another. It takes no memory.
+    pub fn settle_all(&mut self, settled: &[(u32, Kind)])
+        ensures { self.new ≡ with_settled self.old settled.now }
+    {
+        for (index, kind) in settled {
+            self.settle(*index, *kind);
         }
     }
 

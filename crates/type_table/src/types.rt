@@ -4,7 +4,7 @@ ghost use Rattle.ck_syntax.specs.Tree.{no_brackets};
 ghost use Rattle.ck_syntax.specs.View.{brackets_of};
 ghost use Rattle.type_table.specs.Names.{built_in as built_in_of};
 ghost use Rattle.type_table.specs.Table.{class_named};
-ghost use Rattle.type_table.specs.Types.{named_by, built_in_type, class_type, is_unknown, is_plain, kind_of, value_kind, result_kind, declared_kind, count, all_empty, all_sized, is_shred, has_none, takes_at, can_be_made, is_even, has_form, may_be_static};
+ghost use Rattle.type_table.specs.Types.{named_by, built_in_type, class_type, is_unknown, is_plain, kind_of, value_kind, result_kind, declared_kind, made_kind, count, all_empty, all_sized, is_shred, has_none, takes_at, can_be_made, is_even, has_form, may_be_static};
 
 use crate::built_ins::{BuiltInName, built_in};
 use crate::table::Table;
@@ -204,6 +204,18 @@ pub fn declared_kind(head: &DeclHead, named: Named, brackets: &[Bracket]) -> Opt
 {
     match named {
         Named::Elem(elem) if has_form(head, elem, brackets) => kind_of(elem, count(brackets)),
+        _ => None,
+    }
+}
+
+/// The type of an object that a declaration makes with arguments, where it is one.
+pub fn made_kind(named: Named) -> Option<Kind>
+    ensures { result ≡ made_kind named }
+{
+    match named {
+        Named::Elem(elem) if is_reference(elem) && can_be_made(elem, &[]) => {
+            Some(Kind::One(elem))
+        }
         _ => None,
     }
 }

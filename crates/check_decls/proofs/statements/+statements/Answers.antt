@@ -7,7 +7,7 @@ use Rattle.type_table.proofs.Walks.{on, ran_more, ran_all, ran_fault}
 use Rattle.type_table.proofs.Weights.{weight_next}
 use Rattle.program_laws.specs.Statements.{none_stated, statements}
 use Rattle.check_decls.specs.View.{all_stated}
-use Rattle.check_decls.proofs.StatementWalks.{block_is, block_size, one_statement, one_more_statement, statements_run}
+use Rattle.check_decls.proofs.StatementWalks.{block_is, block_size, each_is, one_statement, one_more_statement, statements_run}
 use Rattle.check_decls.proofs.Weights.{one_stmt, stmts_weigh}
 use Rattle.check_decls.proofs.statements.+statements.Goals as goal
 
@@ -21,6 +21,12 @@ pub statement-returns-in-Block-clause-refused : goal.statement-returns-in-Block-
 statement-returns-in-Block-clause-refused t c =
     let is =
     block_is c.args.table.now c.args.around c.args.scope.now c.args.s.now _ c.in-Block.is in
+    search (rules, is)
+
+pub statement-returns-in-ForEach-clause-refused : goal.statement-returns-in-ForEach-clause-refused
+statement-returns-in-ForEach-clause-refused t c =
+    let is =
+    each_is c.args.table.now c.args.around c.args.scope.now c.args.s.now _ _ _ c.in-ForEach.is in
     search (rules, is)
 
 pub statements-returns-in_err-statement-clause-refused :

@@ -44,6 +44,9 @@ decreases-do_while l = 4 * size-Stmt l.body.now + 2
 abbrev pub decreases-for_do : goal.decreases-for_do
 decreases-for_do l = 4 * max (size-Stmt l.start.now) (size-Stmt l.body.now) + 2
 
+abbrev pub decreases-for_each : goal.decreases-for_each
+decreases-for_each l = 4 * size-Stmt l.body.now + 2
+
 abbrev pub decreases-repeat : goal.decreases-repeat
 decreases-repeat l = 4 * size-Stmt l.body.now + 2
 

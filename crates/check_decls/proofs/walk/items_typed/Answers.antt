@@ -1,4 +1,4 @@
-use Rattle.std.proofs.Common.{rules, ◌≡◌, ◌∙◌, None, refl, arith}
+use Rattle.std.proofs.Common.{rules, ◌≡◌, ◌∙◌, None, [], refl, arith}
 use Rattle.ck_syntax.specs.Tree.{no_items}
 use Rattle.ck_syntax.specs.View.{items_of}
 use Rattle.type_table.specs.Answer.{Fault, gives, refused}
@@ -21,7 +21,7 @@ returns-in_err-add_item-clause-refused c =
     ≡ refused why =
     λ why is. items_run c.args.table.now c.args.file no_items c.args.items.now
     ∙ ran_fault (one_item c.args.table.now c.args.file)
-    (gives (begun (new_scope c.args.file None None))) c.args.items.now
+    (gives (begun (new_scope c.args.file None None []))) c.args.items.now
     c.loop-item.item-index
     (view_walked c.loop-item.walked) c.item-item.result why c.loop-item-test.true
     c.item-item.is is c.loop-item.invariant.so_far in
@@ -31,7 +31,7 @@ pub returns-clause-typed : goal.returns-clause-typed
 returns-clause-typed c =
     items_run c.args.table.now c.args.file no_items c.args.items.now
     ∙ ran_all (on (one_item c.args.table.now c.args.file))
-    (gives (begun (new_scope c.args.file None None))) c.args.items.now c.loop-item.item-index
+    (gives (begun (new_scope c.args.file None None []))) c.args.items.now c.loop-item.item-index
     (gives (view_walked c.loop-item.walked)) c.loop-item-test.false c.loop-item.invariant.so_far
 
 pub add_item-requires : goal.add_item-requires
@@ -76,7 +76,7 @@ loop-item-preserved c =
     record {
       so_far =
           ran_more (on (one_item c.args.table.now c.args.file))
-          (gives (begun (new_scope c.args.file None None))) c.args.items.now
+          (gives (begun (new_scope c.args.file None None []))) c.args.items.now
           c.loop-item.item-index (gives (view_walked c.loop-item.walked)) c.item-item.result
           (gives (view_walked c.add_item.new.self)) c.loop-item-test.true c.item-item.is
           (search rules) c.loop-item.invariant.so_far;

@@ -1,4 +1,4 @@
-use Rattle.std.proofs.Common.{◌+◌, ◌≤◌, length, drop, None}
+use Rattle.std.proofs.Common.{◌+◌, ◌≤◌, length, drop, None, []}
 use Rattle.type_table.specs.Answer.{gives}
 use Rattle.type_table.proofs.Walks.{Ran, on}
 use Rattle.type_table.proofs.Weights.{weight}
@@ -14,7 +14,7 @@ abbrev pub invariant-loop-item : goal.invariant-loop-item
 invariant-loop-item l =
     record {
       so_far :
-          Ran (on (one_item l.table l.file)) (gives (begun (new_scope l.file None None))) l.items
+          Ran (on (one_item l.table l.file)) (gives (begun (new_scope l.file None None []))) l.items
           l.item-index (gives (view_walked l.walked));
       left :
           length l.walked.scope.value.locals + weight weights.one_item (drop l.item-index l.items)

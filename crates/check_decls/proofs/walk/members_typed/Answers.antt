@@ -8,6 +8,7 @@ use Rattle.check_scope.specs.Scope.{new_scope}
 use Rattle.program_laws.specs.Programs.{begun, with_this, members_typed}
 use Rattle.check_decls.specs.ProgramView.{view_walked}
 use Rattle.check_decls.proofs.DeclWalks.{one_member, members_run}
+use Rattle.check_decls.proofs.Settling.{class_settles}
 use Rattle.type_table.proofs.Weights as weights
 use Rattle.type_table.proofs.Weights.{members_weigh}
 use Rattle.check_decls.proofs.walk.members_typed.Goals as goal
@@ -18,12 +19,12 @@ returns-in_err-add_member-clause-refused c =
     → one_member c.args.table.now c.args.file c.args.class c.args.first
     (view_walked c.loop-member.walked) c.member-item.result ≡ refused why
     → members_typed c.args.table.now c.args.file c.args.class c.args.first
-    (members_of no_members c.args.members.now) ≡ refused why =
-    λ why is. members_run c.args.table.now c.args.file c.args.class c.args.first no_members
-    c.args.members.now
+    c.args.settled (members_of no_members c.args.members.now) ≡ refused why =
+    λ why is. members_run c.args.table.now c.args.file c.args.class c.args.first
+    c.args.settled no_members c.args.members.now
     ∙ ran_fault (one_member c.args.table.now c.args.file c.args.class c.args.first)
     (gives (begun (with_this
-    (new_scope c.args.file (Some c.args.class) None) c.args.class))) c.args.members.now
+    (new_scope c.args.file (Some c.args.class) None c.args.settled) c.args.class))) c.args.members.now
     c.loop-member.member-index
     (view_walked c.loop-member.walked) c.member-item.result why
     c.loop-member-test.true c.member-item.is is c.loop-member.invariant.so_far in
@@ -31,11 +32,18 @@ returns-in_err-add_member-clause-refused c =
 
 pub returns-clause-typed : goal.returns-clause-typed
 returns-clause-typed c =
-    members_run c.args.table.now c.args.file c.args.class c.args.first no_members c.args.members.now
+    members_run c.args.table.now c.args.file c.args.class c.args.first c.args.settled no_members
+    c.args.members.now
     ∙ ran_all (on (one_member c.args.table.now c.args.file c.args.class c.args.first))
-    (gives (begun (with_this (new_scope c.args.file (Some c.args.class) None) c.args.class)))
+    (gives (begun (with_this (new_scope c.args.file (Some c.args.class) None c.args.settled) c.args.class)))
     c.args.members.now c.loop-member.member-index
     (gives (view_walked c.loop-member.walked)) c.loop-member-test.false c.loop-member.invariant.so_far
+
+pub returns-clause-kept : goal.returns-clause-kept
+returns-clause-kept c =
+    class_settles c.args.table.now c.args.file c.args.class c.args.first c.args.settled
+    (members_of no_members c.args.members.now) (view_walked c.loop-member.walked)
+    (returns-clause-typed c)
 
 pub add_member-requires : goal.add_member-requires
 add_member-requires c =
@@ -62,7 +70,7 @@ loop-member-preserved c =
       so_far =
           ran_more (on (one_member c.args.table.now c.args.file c.args.class c.args.first))
           (gives (begun (with_this
-          (new_scope c.args.file (Some c.args.class) None) c.args.class))) c.args.members.now
+          (new_scope c.args.file (Some c.args.class) None c.args.settled) c.args.class))) c.args.members.now
           c.loop-member.member-index (gives (view_walked c.loop-member.walked))
           c.member-item.result (gives (view_walked c.add_member.new.self))
           c.loop-member-test.true c.member-item.is (search rules)

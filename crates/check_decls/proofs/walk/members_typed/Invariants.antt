@@ -14,7 +14,7 @@ invariant-loop-member l =
     record {
       so_far :
           Ran (on (one_member l.table l.file l.class l.first))
-          (gives (begun (with_this (new_scope l.file (Some l.class) None) l.class))) l.members
+          (gives (begun (with_this (new_scope l.file (Some l.class) None l.fn.settled) l.class))) l.members
           l.member-index (gives (view_walked l.walked));
       left :
           length l.walked.scope.value.locals

@@ -1,6 +1,7 @@
 use Rattle.std.proofs.Common.{rules}
 use Rattle.std.proofs.lemmas.Result.{err_from_is_err_and}
 use Rattle.ck_parser.proofs.MadeItem.{seen_in_file, bad_item_stmt, made_item_stmt}
+use Rattle.ck_parser.proofs.MadeItem.{bad_item_fun, made_item_fun}
 use Rattle.ck_parser.proofs.item.item.Goals as goal
 
 pub returns-in_err-stmt-in_default-opening_of : goal.returns-in_err-stmt-in_default-opening_of
@@ -25,3 +26,15 @@ returns-in_ok-boxed-in_default-opening_of c =
           c.in_ok-stmt-in_default-opening_of.ensures.reads);
       fewer = c.in_ok-stmt-in_default-opening_of.ensures.fewer;
     }
+
+pub returns-in_err-fun-in-Fun-clause-reads : goal.returns-in_err-fun-in-Fun-clause-reads
+returns-in_err-fun-in-Fun-clause-reads c =
+    let p = err_from_is_err_and c.from_residual.result c.from_residual.ensures.1 in
+    rw (p.1, p.2) (bad_item_fun _ c.in-Some.ensures.token
+    (rw c.in-Fun.is at c.opening_of.ensures) c.in_err-fun-in-Fun.ensures.reads)
+
+pub returns-in_ok-boxed-in-Fun-clause-reads : goal.returns-in_ok-boxed-in-Fun-clause-reads
+returns-in_ok-boxed-in-Fun-clause-reads c =
+    rw (c.in_ok-boxed-in-Fun.ensures, c.in_ok-fun-in-Fun-2.ensures)
+    (made_item_fun c.in-Some.ensures.token (rw c.in-Fun.is at c.opening_of.ensures)
+    c.in_ok-fun-in-Fun.ensures.reads)

@@ -1,10 +1,12 @@
+use Rattle.ck_parser.proofs.MadeFor.{array_fault, body_fault, deep_for, made_array, made_body, made_rest, made_start, rest_fault, start_fault}
 use Rattle.std.proofs.Common.{refl, sym, ◌∙◌, arith, suc}
 use Rattle.std.proofs.lemmas.Result.{err_from_is_err_and}
 use Rattle.ck_lexer.specs.declared.mark.Mark.TheVariants as m
 use Rattle.ck_parser.specs.declared.stmt_node.LoopWord.TheVariants as loop_word
 use Rattle.parse_exprs.specs.Machine.{sign, stmts, a_test, a_stmt}
+use Rattle.ck_parser.specs.Statements.{a_for_start, behind_start}
 use Rattle.ck_parser.specs.Statements.{tested, after_block, after_do, after_for, after_if}
-use Rattle.ck_parser.specs.Statements.{after_loop, loop_of, do_end, for_head}
+use Rattle.ck_parser.specs.Statements.{after_loop, loop_of, do_end}
 use Rattle.parse_exprs.specs.Tokens.{a_mark, opens_block, opens_if, opens_while, opens_until}
 use Rattle.parse_exprs.specs.Tokens.{opens_repeat, opens_do, opens_for}
 use Rattle.ck_parser.proofs.MadeStmt.{here, then_reads, stops_in, stmt_first, no_stmt, deep_stmt}
@@ -13,7 +15,7 @@ use Rattle.ck_parser.proofs.MadeStmt.{fault_deeper, stmts_deeper, if_rest, with_
 use Rattle.ck_parser.proofs.MadeStmt.{no_else}
 use Rattle.parse_exprs.proofs.Steps.{onward, inside, stops_inside, stops_onward, past_sign, no_sign}
 use Rattle.ck_syntax.specs.Tree as t
-use Rattle.ck_syntax.specs.View.{view_expr, view_option, view_stmt, stmts_of}
+use Rattle.ck_syntax.specs.View.{view_expr, view_stmt, stmts_of}
 use Rattle.ck_syntax.proofs.Views.{stmts_of-append}
 use Rattle.ck_parser.proofs.stmt.+stmts.Goals as goal
 
@@ -156,31 +158,95 @@ do_stmt-returns-clause-reads r c = then_reads _ _ _ _ _ _ _
     (inside (λ k s. do_end c.args.depth c.args.line s k) c.in_ok-body.ensures.reads)
     c.do_end.ensures.reads
 
+pub for_stmt-returns-in_err-open-clause-reads : goal.for_stmt-returns-in_err-open-clause-reads
+for_stmt-returns-in_err-open-clause-reads r c =
+    let p = err_from_is_err_and c.from_residual.result c.from_residual.ensures.1 in
+    rw (p.1, p.2) (no_sign c.args.tokens.now (a_mark m.LeftParen) (suc c.args.depth)
+    (λ k. a_for_start (suc c.args.depth) (behind_start c.args.depth c.args.line k)) _
+    c.in_err-open.ensures.token)
+
+pub for_stmt-returns-in_err-inside-clause-reads : goal.for_stmt-returns-in_err-inside-clause-reads
+for_stmt-returns-in_err-inside-clause-reads r c =
+    let p = err_from_is_err_and c.from_residual-in_err-inside.result
+    c.from_residual-in_err-inside.ensures.1 in
+    rw (p.1, p.2) (deep_for c.args.depth c.args.line _ c.in_ok-open.ensures.token
+    c.in_err-inside.ensures)
+
 pub for_stmt-returns-in_err-start-clause-reads : goal.for_stmt-returns-in_err-start-clause-reads
 for_stmt-returns-in_err-start-clause-reads r c =
-    let p = err_from_is_err_and c.from_residual.result c.from_residual.ensures.1 in
-    rw (p.1, p.2) (stops_inside (λ k. for_head c.args.depth k) c.args.tokens.now
-    (λ k x y e. a_stmt (suc c.args.depth) (λ s. k (t.for_do c.args.line x y e s))) _
+    let p = err_from_is_err_and c.from_residual-in_err-start.result
+    c.from_residual-in_err-start.ensures.1 in
+    let (q, i) = c.in_ok-inside.ensures in
+    rw (p.1, p.2) (start_fault c.args.depth c.args.line _ _ c.in_ok-open.ensures.token q i
     c.in_err-start.ensures.reads)
 
-pub for_stmt-returns-in_err-body-clause-reads : goal.for_stmt-returns-in_err-body-clause-reads
-for_stmt-returns-in_err-body-clause-reads r c =
-    let p = err_from_is_err_and c.from_residual-in_err-body.result
-    c.from_residual-in_err-body.ensures.1 in
-    rw (p.1, p.2) (stops_in _ (λ k. a_stmt (suc c.args.depth) k)
-    (λ k s. k (t.for_do c.args.line (view_stmt c.in_ok-start.start.value)
-    (view_stmt c.in_ok-start.test.value) (view_option c.in_ok-start.step) s)) c.args.tokens.now
-    c.in_ok-start.behind.now _ (inside (λ k x y e.
-    a_stmt (suc c.args.depth) (λ s. k (t.for_do c.args.line x y e s)))
-    c.in_ok-start.ensures.reads) c.in_err-body.ensures.reads)
+pub for_stmt-returns-in_err-test-in-Stmt-clause-reads :
+    goal.for_stmt-returns-in_err-test-in-Stmt-clause-reads
+for_stmt-returns-in_err-test-in-Stmt-clause-reads r c =
+    let p = err_from_is_err_and c.from_residual-in_err-test-in-Stmt.result
+    c.from_residual-in_err-test-in-Stmt.ensures.1 in
+    let (q, i) = c.in_ok-inside.ensures in
+    rw (p.1, p.2) (rest_fault c.args.tokens.now c.in_ok-start.behind.now c.args.depth c.args.line
+    _ _ c.in-Stmt.is (made_start _ c.args.depth c.args.line _ c.in_ok-open.ensures.token q i
+    c.in_ok-start.ensures.reads) q c.in_err-test-in-Stmt.ensures.reads)
 
-pub for_stmt-returns-clause-reads : goal.for_stmt-returns-clause-reads
-for_stmt-returns-clause-reads r c = rw c.in_ok-for_do.ensures
-    (onward (inside (λ k x y e. a_stmt (suc c.args.depth)
-    (λ s. k (t.for_do c.args.line x y e s))) c.in_ok-start.ensures.reads)
-    (inside (λ k s. k (t.for_do c.args.line (view_stmt c.in_ok-start.start.value)
-    (view_stmt c.in_ok-start.test.value) (view_option c.in_ok-start.step) s))
-    c.in_ok-body.ensures.reads))
+pub for_stmt-returns-in_err-body-in-Stmt-clause-reads :
+    goal.for_stmt-returns-in_err-body-in-Stmt-clause-reads
+for_stmt-returns-in_err-body-in-Stmt-clause-reads r c =
+    let p = err_from_is_err_and c.from_residual-in_err-body-in-Stmt.result
+    c.from_residual-in_err-body-in-Stmt.ensures.1 in
+    let (q, i) = c.in_ok-inside.ensures in
+    rw (p.1, p.2) (body_fault _ c.args.tokens.now c.in_ok-test-in-Stmt.close.now c.args.depth
+    c.args.line _ (made_rest c.args.tokens.now c.in_ok-start.behind.now
+    c.in_ok-test-in-Stmt.close.now c.args.depth c.args.line _ c.in-Stmt.is
+    (made_start _ c.args.depth c.args.line _ c.in_ok-open.ensures.token q i
+    c.in_ok-start.ensures.reads) q c.in_ok-test-in-Stmt.ensures.reads)
+    c.in_err-body-in-Stmt.ensures.reads)
+
+pub for_stmt-returns-in_ok-for_do-in-Stmt-clause-reads :
+    goal.for_stmt-returns-in_ok-for_do-in-Stmt-clause-reads
+for_stmt-returns-in_ok-for_do-in-Stmt-clause-reads r c =
+    let (q, i) = c.in_ok-inside.ensures in
+    made_body _ c.args.tokens.now c.in_ok-test-in-Stmt.close.now c.in_ok-body-in-Stmt.rest.now
+    c.args.depth c.args.line (made_rest c.args.tokens.now c.in_ok-start.behind.now
+    c.in_ok-test-in-Stmt.close.now c.args.depth c.args.line _ c.in-Stmt.is
+    (made_start _ c.args.depth c.args.line _ c.in_ok-open.ensures.token q i
+    c.in_ok-start.ensures.reads) q c.in_ok-test-in-Stmt.ensures.reads)
+    c.in_ok-body-in-Stmt.ensures.reads c.in_ok-for_do-in-Stmt.ensures
+
+pub for_stmt-returns-in_err-array-in-Item-clause-reads :
+    goal.for_stmt-returns-in_err-array-in-Item-clause-reads
+for_stmt-returns-in_err-array-in-Item-clause-reads r c =
+    let p = err_from_is_err_and c.from_residual-in_err-array-in-Item.result
+    c.from_residual-in_err-array-in-Item.ensures.1 in
+    let (q, i) = c.in_ok-inside.ensures in
+    rw (p.1, p.2) (array_fault c.args.tokens.now c.in_ok-start.behind.now c.args.depth c.args.line
+    _ _ c.in-Item.is (made_start _ c.args.depth c.args.line _ c.in_ok-open.ensures.token q i
+    c.in_ok-start.ensures.reads) q c.in_err-array-in-Item.ensures.reads)
+
+pub for_stmt-returns-in_err-body-in-Item-clause-reads :
+    goal.for_stmt-returns-in_err-body-in-Item-clause-reads
+for_stmt-returns-in_err-body-in-Item-clause-reads r c =
+    let p = err_from_is_err_and c.from_residual-in_err-body-in-Item.result
+    c.from_residual-in_err-body-in-Item.ensures.1 in
+    let (q, i) = c.in_ok-inside.ensures in
+    rw (p.1, p.2) (body_fault _ c.args.tokens.now c.in_ok-array-in-Item.close.now c.args.depth
+    c.args.line _ (made_array c.args.tokens.now c.in_ok-start.behind.now
+    c.in_ok-array-in-Item.close.now c.args.depth c.args.line _ c.in-Item.is
+    (made_start _ c.args.depth c.args.line _ c.in_ok-open.ensures.token q i
+    c.in_ok-start.ensures.reads) q c.in_ok-array-in-Item.ensures.reads)
+    c.in_err-body-in-Item.ensures.reads)
+
+pub for_stmt-returns-in_ok-for_each-in-Item-clause-reads :
+    goal.for_stmt-returns-in_ok-for_each-in-Item-clause-reads
+for_stmt-returns-in_ok-for_each-in-Item-clause-reads r c =
+    let (q, i) = c.in_ok-inside.ensures in
+    made_body _ c.args.tokens.now c.in_ok-array-in-Item.close.now c.in_ok-body-in-Item.rest.now
+    c.args.depth c.args.line (made_array c.args.tokens.now c.in_ok-start.behind.now
+    c.in_ok-array-in-Item.close.now c.args.depth c.args.line _ c.in-Item.is
+    (made_start _ c.args.depth c.args.line _ c.in_ok-open.ensures.token q i
+    c.in_ok-start.ensures.reads) q c.in_ok-array-in-Item.ensures.reads)
+    c.in_ok-body-in-Item.ensures.reads c.in_ok-for_each-in-Item.ensures
 
 pub block-returns-in_err-stmts-clause-reads : goal.block-returns-in_err-stmts-clause-reads
 block-returns-in_err-stmts-clause-reads r c =

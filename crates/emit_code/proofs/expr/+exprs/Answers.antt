@@ -1,5 +1,5 @@
 -- The codes of expressions: those that jump are put part after part.
-use Rattle.std.proofs.Common.{◌≡◌, ℕ, ◌+◌, pos, List, [], ◌∷◌, ◌++◌, length, refl, ap, ◌∙◌, append_assoc, rules, vec_len}
+use Rattle.std.proofs.Common.{◌≡◌, ℕ, ◌+◌, pos, List, [], ◌∷◌, ◌++◌, None, length, refl, ap, ◌∙◌, append_assoc, rules, vec_len}
 use Rattle.std.specs.Prelude.{slice_set}
 use Rattle.ck_values.specs.declared.kind.Elem.TheVariants as elem
 use Rattle.ck_values.specs.declared.operator.Op1.TheVariants.{BoolInt}
@@ -94,7 +94,7 @@ module _ (classes : List Class) (texts : List (List ℕ)) (place : Place) (p : �
       → n5 ≡ bodies_end (n4 + 1) (bodies_of classes class)
       → c6 ≡ c5 ++ at Fill place ∷ at (Jump round) place ∷ [] → n6 ≡ n5 + 1 + 1 → end ≡ n6
       → c7 ≡ slice_set c6 over (at (Each end) place)
-      → c7 ≡ c0 ++ expr_code classes texts p (NewObjects (elem.Class class) size place)
+      → c7 ≡ c0 ++ expr_code classes texts p (NewObjects (elem.Class class) size None place)
   objects_after class size c0 c1 c2 c3 c4 c5 c6 c7 n1 n2 n3 n4 n5 n6 round over end e1 r1 e2 r2 l2
       at_round at_over e3 r3 e4 r4 e5 r5 e6 r6 at_end e7 =
       let bodies = bodies_code (bodies_of classes class) place in
@@ -123,7 +123,7 @@ module _ (classes : List Class) (texts : List (List ℕ)) (place : Place) (p : �
       → c4 ≡ c3 ++ at Turn place ∷ at (Ugen kind) place ∷ [] → n4 ≡ n3 + 1 + 1
       → c5 ≡ c4 ++ at Fill place ∷ at (Jump round) place ∷ [] → n5 ≡ n4 + 1 + 1 → end ≡ n5
       → c6 ≡ slice_set c5 over (at (Each end) place)
-      → c6 ≡ c0 ++ expr_code classes texts p (NewObjects (elem.Unit kind) size place)
+      → c6 ≡ c0 ++ expr_code classes texts p (NewObjects (elem.Unit kind) size None place)
   units_after kind size c0 c1 c2 c3 c4 c5 c6 n1 n2 n3 n4 n5 round over end e1 r1 e2 r2 l2 at_round
       at_over e3 r3 e4 r4 e5 r5 at_end e6 =
       let made : List Step =

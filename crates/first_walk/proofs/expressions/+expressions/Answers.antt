@@ -1,19 +1,18 @@
-use Rattle.std.proofs.Common.{rules, ◌≡◌, ◌∙◌, ◌+◌, ◌≤◌, List, ap, arith}
+use Rattle.std.proofs.Common.{rules, ◌≡◌, ◌∙◌, ◌+◌, ◌≤◌, arith}
 use Rattle.ck_syntax.specs.declared.expr.Bracket.TheViews.{the_lemmas}
-use Rattle.ck_syntax.specs.Size.{expr_size, brackets_size}
-use Rattle.ck_syntax.specs.declared.expr.Bracket.{Bracket}
+use Rattle.ck_syntax.specs.Size.{expr_size}
 use Rattle.ck_syntax.specs.Tree.{no_exprs, no_brackets}
-use Rattle.ck_syntax.specs.View.{view_expr, exprs_of, brackets_of}
+use Rattle.ck_syntax.specs.View.{view_expr, view_declr, exprs_of, brackets_of}
 use Rattle.type_table.specs.Answer.{Fault, gives, refused}
 use Rattle.first_walk.specs.Steps.{bracket_entered}
 use Rattle.first_walk.specs.FirstWalk.{enter_exprs, enter_brackets}
 use Rattle.type_table.proofs.Walks.{on, ran_more, ran_all, ran_fault}
 use Rattle.type_table.proofs.Weights as weights
-use Rattle.type_table.proofs.Weights.{weight_next, exprs_weigh, bracketed_more, brackets_weigh, array_size, call_size, new_size, declare_size}
-use Rattle.first_walk.proofs.ExprWalks.{array_is, new_is, call_is, declare_is, one_expr, exprs_run, brackets_run}
+use Rattle.type_table.proofs.Weights.{weight_next, exprs_weigh, bracketed_more, brackets_weigh, array_size, call_size, new_size, new_with_size, declare_size}
+use Rattle.first_walk.proofs.ExprWalks.{array_is, new_is, new_with_is, call_is, brackets_are, arguments_are, brackets_measure, arguments_measure, declare_is, one_expr, exprs_run, brackets_run}
 use Rattle.first_walk.specs.Room.{entries, declared_by}
 use Rattle.first_walk.proofs.Measures.{counts_entries, counts_declared}
-use Rattle.first_walk.proofs.RoomFacts.{expr_grows, bracket_grows, brackets_grow}
+use Rattle.first_walk.proofs.RoomFacts.{expr_grows, bracket_grows, behind_grows}
 use Rattle.first_walk.proofs.expressions.+expressions.Goals as goal
 
 pub enter_exprs-returns-in_err-enter_expr-clause-refused : goal.enter_exprs-returns-in_err-enter_expr-clause-refused
@@ -46,6 +45,11 @@ enter_expr-returns-in-New-clause-entered t c =
     let is = new_is c.args.file c.args.owner c.args.table.now c.args.e.now _ _ c.in-New.is in
     search (rules, is)
 
+pub enter_expr-returns-in-NewWith-clause-entered : goal.enter_expr-returns-in-NewWith-clause-entered
+enter_expr-returns-in-NewWith-clause-entered t c =
+    let is = new_with_is c.args.file c.args.owner c.args.table.now c.args.e.now _ _ c.in-NewWith.is in
+    search (rules, is)
+
 pub enter_expr-returns-in-Call-clause-entered : goal.enter_expr-returns-in-Call-clause-entered
 enter_expr-returns-in-Call-clause-entered t c =
     let is = call_is c.args.file c.args.owner c.args.table.now c.args.e.now _ _ c.in-Call.is in
@@ -64,6 +68,31 @@ enter_expr-returns-in-Array-clause-refused t c =
 pub enter_expr-returns-in-New-clause-refused : goal.enter_expr-returns-in-New-clause-refused
 enter_expr-returns-in-New-clause-refused t c =
     let is = new_is c.args.file c.args.owner c.args.table.now c.args.e.now _ _ c.in-New.is in
+    search (rules, is)
+
+pub enter_expr-returns-in-NewWith-clause-refused : goal.enter_expr-returns-in-NewWith-clause-refused
+enter_expr-returns-in-NewWith-clause-refused t c =
+    let is = new_with_is c.args.file c.args.owner c.args.table.now c.args.e.now _ _ c.in-NewWith.is in
+    search (rules, is)
+
+pub enter_behind-returns-in-Brackets-clause-entered : goal.enter_behind-returns-in-Brackets-clause-entered
+enter_behind-returns-in-Brackets-clause-entered t c =
+    let is = brackets_are c.args.file c.args.owner c.args.table.now c.args.declarator.now _ c.in-Brackets.is in
+    search (rules, is)
+
+pub enter_behind-returns-in-Brackets-clause-refused : goal.enter_behind-returns-in-Brackets-clause-refused
+enter_behind-returns-in-Brackets-clause-refused t c =
+    let is = brackets_are c.args.file c.args.owner c.args.table.now c.args.declarator.now _ c.in-Brackets.is in
+    search (rules, is)
+
+pub enter_behind-returns-in-Arguments-clause-entered : goal.enter_behind-returns-in-Arguments-clause-entered
+enter_behind-returns-in-Arguments-clause-entered t c =
+    let is = arguments_are c.args.file c.args.owner c.args.table.now c.args.declarator.now _ c.in-Arguments.is in
+    search (rules, is)
+
+pub enter_behind-returns-in-Arguments-clause-refused : goal.enter_behind-returns-in-Arguments-clause-refused
+enter_behind-returns-in-Arguments-clause-refused t c =
+    let is = arguments_are c.args.file c.args.owner c.args.table.now c.args.declarator.now _ c.in-Arguments.is in
     search (rules, is)
 
 pub enter_expr-returns-in-Call-clause-refused : goal.enter_expr-returns-in-Call-clause-refused
@@ -211,6 +240,21 @@ enter_expr-enter_exprs-requires-in-New t c =
     let is = new_size c.args.e.now _ _ c.in-New.is in
     (search (rules, the_lemmas), (grind (arith, is, bracketed_more), grind (arith, is, bracketed_more)))
 
+pub enter_expr-enter_exprs-requires-in-NewWith : goal.enter_expr-enter_exprs-requires-in-NewWith
+enter_expr-enter_exprs-requires-in-NewWith t c =
+    let is = new_with_size c.args.e.now _ _ c.in-NewWith.is in
+    (search (rules, the_lemmas), (grind (arith, is), grind (arith, is)))
+
+pub enter_behind-enter_brackets-requires : goal.enter_behind-enter_brackets-requires
+enter_behind-enter_brackets-requires t c =
+    let is = brackets_measure c.args.declarator.now _ c.in-Brackets.is in
+    (search (rules, the_lemmas), (grind (arith, is), grind (arith, is)))
+
+pub enter_behind-enter_exprs-requires : goal.enter_behind-enter_exprs-requires
+enter_behind-enter_exprs-requires t c =
+    let is = arguments_measure c.args.declarator.now _ c.in-Arguments.is in
+    (search (rules, the_lemmas), (grind (arith, is), grind (arith, is)))
+
 pub enter_expr-enter_call-requires : goal.enter_expr-enter_call-requires
 enter_expr-enter_call-requires t c =
     let is = call_size c.args.e.now _ _ c.in-Call.is in
@@ -239,15 +283,13 @@ enter_declaration-enter_declared-requires t c =
       few =
           omega (
             arith,
-            ap (λ (bs : List Bracket). brackets_size (brackets_of no_brackets bs)) c.items.ensures,
-            brackets_grow entries counts_entries c.args.file c.args.owner c.args.table.now c.enter_brackets.new.table
-                (brackets_of no_brackets c.items.result.now) c.in_ok-enter_brackets.ensures.entered,
+            behind_grows entries counts_entries c.args.file c.args.owner c.args.table.now c.enter_behind.new.table
+                (view_declr c.args.declarator.now) c.in_ok-enter_behind.ensures.entered,
           );
       own =
           omega (
             arith,
-            ap (λ (bs : List Bracket). brackets_size (brackets_of no_brackets bs)) c.items.ensures,
-            brackets_grow (declared_by c.args.owner) (counts_declared c.args.owner) c.args.file c.args.owner c.args.table.now c.enter_brackets.new.table
-                (brackets_of no_brackets c.items.result.now) c.in_ok-enter_brackets.ensures.entered,
+            behind_grows (declared_by c.args.owner) (counts_declared c.args.owner) c.args.file c.args.owner c.args.table.now c.enter_behind.new.table
+                (view_declr c.args.declarator.now) c.in_ok-enter_behind.ensures.entered,
           );
     }

@@ -41,7 +41,10 @@ abbrev pub decreases-enter_call : goal.decreases-enter_call
 decreases-enter_call l = 4 * max (goal.size-enter_call l) (size-Expr l.callee.now) + 3
 
 abbrev pub decreases-enter_declaration : goal.decreases-enter_declaration
-decreases-enter_declaration l = 4 * goal.size-enter_declaration l + 3
+decreases-enter_declaration l = 4 * goal.size-enter_declaration l + 4
+
+abbrev pub decreases-enter_behind : goal.decreases-enter_behind
+decreases-enter_behind l = 4 * goal.size-enter_behind l + 3
 
 abbrev pub decreases-enter_exprs : goal.decreases-enter_exprs
 decreases-enter_exprs l = 4 * goal.size-enter_exprs l + 2

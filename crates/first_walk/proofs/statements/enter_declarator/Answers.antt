@@ -1,11 +1,8 @@
-use Rattle.std.proofs.Common.{List, ap, arith}
-use Rattle.ck_syntax.specs.declared.expr.Bracket.{Bracket}
-use Rattle.ck_syntax.specs.Size.{brackets_size}
-use Rattle.ck_syntax.specs.Tree.{no_brackets}
-use Rattle.ck_syntax.specs.View.{brackets_of}
+use Rattle.std.proofs.Common.{arith}
+use Rattle.ck_syntax.specs.View.{view_declr}
 use Rattle.first_walk.specs.Room.{entries, declared_by}
 use Rattle.first_walk.proofs.Measures.{counts_entries, counts_declared}
-use Rattle.first_walk.proofs.RoomFacts.{brackets_grow}
+use Rattle.first_walk.proofs.RoomFacts.{behind_grows}
 use Rattle.first_walk.proofs.statements.enter_declarator.Goals as goal
 
 pub enter_declared-requires : goal.enter_declared-requires
@@ -14,15 +11,13 @@ enter_declared-requires c =
       few =
           omega (
             arith,
-            ap (λ (bs : List Bracket). brackets_size (brackets_of no_brackets bs)) c.items.ensures,
-            brackets_grow entries counts_entries c.args.file c.args.owner c.args.table.now c.enter_brackets.new.table
-                (brackets_of no_brackets c.items.result.now) c.in_ok-enter_brackets.ensures.entered,
+            behind_grows entries counts_entries c.args.file c.args.owner c.args.table.now c.enter_behind.new.table
+                (view_declr c.args.declarator.now) c.in_ok-enter_behind.ensures.entered,
           );
       own =
           omega (
             arith,
-            ap (λ (bs : List Bracket). brackets_size (brackets_of no_brackets bs)) c.items.ensures,
-            brackets_grow (declared_by c.args.owner) (counts_declared c.args.owner) c.args.file c.args.owner c.args.table.now c.enter_brackets.new.table
-                (brackets_of no_brackets c.items.result.now) c.in_ok-enter_brackets.ensures.entered,
+            behind_grows (declared_by c.args.owner) (counts_declared c.args.owner) c.args.file c.args.owner c.args.table.now c.enter_behind.new.table
+                (view_declr c.args.declarator.now) c.in_ok-enter_behind.ensures.entered,
           );
     }

@@ -3,7 +3,7 @@ use Rattle.std.proofs.lemmas.Result.{err_from_is_err_and}
 use Rattle.parse_exprs.specs.Reads.{Agrees}
 use Rattle.parse_exprs.specs.Tokens.{opening}
 use Rattle.parse_exprs.proofs.MadeHeads.{a_declaration_here, base_is_here, no_static_base}
-use Rattle.parse_exprs.proofs.MadeHeads.{not_a_declaration, static_base}
+use Rattle.parse_exprs.proofs.MadeHeads.{behind_auto, not_a_declaration, static_base}
 use Rattle.parse_exprs.proofs.ahead.declared_base.Goals as goal
 
 pub returns-in_err-base-clause-reads : goal.returns-in_err-base-clause-reads
@@ -12,19 +12,25 @@ returns-in_err-base-clause-reads c =
     let o = subst (Agrees (opening c.in-Some.token.now.line c.in-Some.token.now.kind))
     c.in-Static.is c.opening_of-opening.ensures in
     rw (p.1, p.2) (no_static_base c.args.depth _ c.in-Some.ensures.token o c.requires
-    c.in_err-base.ensures.token)
+    c.in_err-base.ensures.reads)
 
 pub returns-in-Static-clause-reads : goal.returns-in-Static-clause-reads
 returns-in-Static-clause-reads c =
     let o = subst (Agrees (opening c.in-Some.token.now.line c.in-Some.token.now.kind))
     c.in-Static.is c.opening_of-opening.ensures in
-    static_base c.args.depth c.in-Some.ensures.token o c.requires c.in_ok-base.ensures.token
+    static_base c.args.depth c.in-Some.ensures.token o c.requires c.in_ok-base.ensures.reads
+
+pub returns-in-Auto-clause-reads : goal.returns-in-Auto-clause-reads
+returns-in-Auto-clause-reads c =
+    let o = subst (Agrees (opening c.in-Some.token.now.line c.in-Some.token.now.kind))
+    c.in-Auto.is c.opening_of-opening.ensures in
+    behind_auto c.args.depth c.in-Some.ensures.token o c.requires
 
 pub returns-then-not-begins_declaration : goal.returns-then-not-begins_declaration
 returns-then-not-begins_declaration c = record {
   reads = not_a_declaration c.args.depth c.opening_of-opening.result c.in-Some.ensures.token
       c.opening_of-opening.ensures c.in_default-opening.not-Static
-      (sym c.if-not-begins_declaration.ensures);
+      c.in_default-opening-2.not-Auto (sym c.if-not-begins_declaration.ensures);
   fewer = tt;
 }
 

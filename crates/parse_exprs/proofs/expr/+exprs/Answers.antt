@@ -10,25 +10,28 @@ use Rattle.parse_exprs.proofs.Looked.{no_suffix, an_operator, no_operator, a_chu
 use Rattle.parse_exprs.proofs.Looked.{a_lead, no_lead, a_declaration, no_declaration}
 use Rattle.parse_exprs.proofs.Made.{K1, exprs_end, exprs_fault, exprs_first, exprs_next, exprs_none}
 use Rattle.parse_exprs.proofs.MadeExpr.{KB, KS, here, expr_none, expr_first, chuck_none, made_chuck}
-use Rattle.parse_exprs.proofs.MadeExpr.{brackets_fault, made_declaration, value_fault, made_value}
+use Rattle.parse_exprs.proofs.MadeExpr.{tail_fault, made_declaration, value_fault, made_value}
 use Rattle.parse_exprs.proofs.MadeExpr.{bracket_deep, bracket_fault, made_bracket, brackets_end}
 use Rattle.parse_exprs.proofs.MadeExpr.{size_deep, size_fault, made_size, sizes_end, closed_none}
 use Rattle.parse_exprs.proofs.MadeExpr.{unclosed, made_closed, all_closed_none, all_unclosed}
 use Rattle.parse_exprs.proofs.MadeExpr.{made_all_closed, made_none, optional_fault, made_some}
 use Rattle.parse_exprs.proofs.MadeExpr.{no_arguments, arguments_come, then_reads}
+use Rattle.parse_exprs.proofs.MadeExpr.{given_deep, given_fault, given_made, with_arguments}
+use Rattle.parse_exprs.proofs.MadeExpr.{plain_tail, brackets_fault, brackets_made, object_with, sized}
+use Rattle.parse_exprs.proofs.MadeExpr.{sizes_fault, sizes_made, object_made}
 use Rattle.parse_exprs.proofs.MadeLevels.{paren_fault, paren_made, array_fault, array_made}
 use Rattle.parse_exprs.proofs.MadeLevels.{atom_made, call_fault, call_made, index_fault, index_made}
 use Rattle.parse_exprs.proofs.MadeLevels.{member_fault, member_made, postfix_made, suffix_fault}
 use Rattle.parse_exprs.proofs.MadeLevels.{dur_none, dur_first, dur_deep, unit_fault, dur_made}
 use Rattle.parse_exprs.proofs.MadeLevels.{dur_end, prefix_fault, prefix_made, new_base_fault}
-use Rattle.parse_exprs.proofs.MadeLevels.{new_sizes_fault, new_made, no_tilde, spork_fault}
+use Rattle.parse_exprs.proofs.MadeLevels.{object_fault, new_made, no_tilde, spork_fault}
 use Rattle.parse_exprs.proofs.MadeLevels.{spork_made, cast_none, cast_first, cast_deep}
 use Rattle.parse_exprs.proofs.MadeLevels.{target_fault, cast_made, cast_end}
 use Rattle.parse_exprs.proofs.MadeLevels.{level_first, level_none, right_fault}
 use Rattle.parse_exprs.proofs.MadeLevels.{binary_made, cond_none, cond_deep, then_fault}
 use Rattle.parse_exprs.proofs.MadeLevels.{otherwise_fault, choice_made, cond_end}
 use Rattle.parse_exprs.proofs.Steps.{onward, stops_onward}
-use Rattle.ck_syntax.proofs.Views.{exprs_of-append, brackets_of-append}
+use Rattle.ck_syntax.proofs.Views.{exprs_of-append, brackets_of-append, view-Brackets, view-Arguments}
 use Rattle.ck_syntax.specs.Tree.{no_brackets, no_exprs}
 use Rattle.ck_syntax.specs.View.{view_expr}
 use Rattle.parse_exprs.proofs.expr.+exprs.Goals as goal
@@ -393,13 +396,14 @@ led-returns-in_err-base-in-New-clause-reads t c =
     rw (p.1, p.2) (new_base_fault c.args.tokens.now c.args.depth c.args.line _ c.in-New.is
     c.in_err-base-in-New.ensures.token)
 
-pub led-returns-in_err-sizes-in-New-clause-reads : goal.led-returns-in_err-sizes-in-New-clause-reads
-led-returns-in_err-sizes-in-New-clause-reads t c =
-    let p = err_from_is_err_and c.from_residual-in_err-sizes-in-New.result
-    c.from_residual-in_err-sizes-in-New.ensures.1 in
-    rw (p.1, p.2) (new_sizes_fault c.args.tokens.now c.in_ok-base-in-New.behind.now c.args.depth
+pub led-returns-in_err-object-in-New-clause-reads :
+    goal.led-returns-in_err-object-in-New-clause-reads
+led-returns-in_err-object-in-New-clause-reads t c =
+    let p = err_from_is_err_and c.from_residual-in_err-object-in-New.result
+    c.from_residual-in_err-object-in-New.ensures.1 in
+    rw (p.1, p.2) (object_fault c.args.tokens.now c.in_ok-base-in-New.behind.now c.args.depth
     c.args.line _ c.in-New.is c.in_ok-base-in-New.ensures.token c.requires
-    c.in_err-sizes-in-New.ensures.reads)
+    c.in_err-object-in-New.ensures.reads)
 
 pub led-returns-in_err-behind-in-Spork-clause-reads :
     goal.led-returns-in_err-behind-in-Spork-clause-reads
@@ -425,8 +429,7 @@ led-returns-in_ok-prefix-in-Prefix-clause-reads t c = prefix_made c.args.depth c
 
 pub led-returns-in_ok-object-in-New-clause-reads : goal.led-returns-in_ok-object-in-New-clause-reads
 led-returns-in_ok-object-in-New-clause-reads t c = new_made c.args.depth c.args.line c.in-New.is
-    c.in_ok-base-in-New.ensures.token c.requires c.in_ok-sizes-in-New.ensures.reads
-    c.in_ok-object-in-New.ensures
+    c.in_ok-base-in-New.ensures.token c.requires c.in_ok-object-in-New.ensures.reads
 
 pub led-returns-in_ok-spork-in-Spork-clause-reads :
     goal.led-returns-in_ok-spork-in-Spork-clause-reads
@@ -501,12 +504,12 @@ operand-returns-in_err-line-clause-reads t c =
     let p = err_from_is_err_and c.from_residual.result c.from_residual.ensures.1 in
     rw (p.1, p.2) (c.in_err-line.ensures.reads)
 
-pub operand-returns-in_err-brackets-clause-reads : goal.operand-returns-in_err-brackets-clause-reads
-operand-returns-in_err-brackets-clause-reads t c =
+pub operand-returns-in_err-tail-clause-reads : goal.operand-returns-in_err-tail-clause-reads
+operand-returns-in_err-tail-clause-reads t c =
     let s = a_declaration c.args.depth c.args.tokens.now c.in-Some.is c.in_ok-line.ensures.reads in
-    let p = err_from_is_err_and c.from_residual-in_err-brackets.result
-    c.from_residual-in_err-brackets.ensures.1 in
-    rw (p.1, p.2) (brackets_fault c.args.depth _ _ _ _ s c.in_err-brackets.ensures.reads)
+    let p = err_from_is_err_and c.from_residual-in_err-tail.result
+    c.from_residual-in_err-tail.ensures.1 in
+    rw (p.1, p.2) (tail_fault c.args.depth _ _ _ _ s (c.in_err-tail.ensures.reads _))
 
 pub operand-returns-in_err-expr-clause-reads : goal.operand-returns-in_err-expr-clause-reads
 operand-returns-in_err-expr-clause-reads t c =
@@ -516,10 +519,10 @@ operand-returns-in_err-expr-clause-reads t c =
     c.from_residual-in_err-expr.ensures.1 in
     rw (p.1, p.2) (value_fault c.args.depth _ s c.in_err-expr.ensures.reads)
 
-pub operand-returns-in_ok-brackets-clause-reads : goal.operand-returns-in_ok-brackets-clause-reads
-operand-returns-in_ok-brackets-clause-reads t c =
+pub operand-returns-in_ok-tail-clause-reads : goal.operand-returns-in_ok-tail-clause-reads
+operand-returns-in_ok-tail-clause-reads t c =
     let s = a_declaration c.args.depth c.args.tokens.now c.in-Some.is c.in_ok-line.ensures.reads in
-    made_declaration c.args.depth _ _ _ s c.in_ok-brackets.ensures.reads
+    made_declaration c.args.depth _ _ _ s (c.in_ok-tail.ensures.reads _)
 
 pub operand-returns-in_ok-expr-clause-reads : goal.operand-returns-in_ok-expr-clause-reads
 operand-returns-in_ok-expr-clause-reads t c =
@@ -681,3 +684,82 @@ pub with_suffix-returns-in_ok-postfix-in-Postfix-clause-reads :
     goal.with_suffix-returns-in_ok-postfix-in-Postfix-clause-reads
 with_suffix-returns-in_ok-postfix-in-Postfix-clause-reads t c = postfix_made c.args.depth
     (view_expr c.args.left.value) c.in-Postfix.is c.in_ok-postfix-in-Postfix.ensures
+
+pub declarator_tail-returns-in_err-inside-clause-reads :
+    goal.declarator_tail-returns-in_err-inside-clause-reads
+declarator_tail-returns-in_err-inside-clause-reads t c = λ n.
+    let p = err_from_is_err_and c.from_residual.result c.from_residual.ensures.1 in
+    rw (p.1, p.2) (given_deep c.args.depth (with_arguments n) (plain_tail c.args.depth n) _
+    c.in_err-inside.ensures.token)
+
+pub declarator_tail-returns-in_err-arguments-clause-reads :
+    goal.declarator_tail-returns-in_err-arguments-clause-reads
+declarator_tail-returns-in_err-arguments-clause-reads t c = λ n.
+    let (e, i, q) = entered c.args.depth c.args.tokens.now m.LeftParen c.in-Some.is
+    c.in_ok-inside.ensures.token in
+    let p = err_from_is_err_and c.from_residual-in_err-arguments.result
+    c.from_residual-in_err-arguments.ensures.1 in
+    rw (p.1, p.2) (given_fault c.args.depth c.in-Some.inside (with_arguments n)
+    (plain_tail c.args.depth n) _ q e i c.in_err-arguments.ensures.reads)
+
+pub declarator_tail-returns-in_err-brackets-clause-reads :
+    goal.declarator_tail-returns-in_err-brackets-clause-reads
+declarator_tail-returns-in_err-brackets-clause-reads t c = λ n.
+    let p = err_from_is_err_and c.from_residual-in_err-brackets.result
+    c.from_residual-in_err-brackets.ensures.1 in
+    rw (p.1, p.2) (brackets_fault c.args.tokens.now c.args.depth n _
+    (not_entered c.args.depth c.args.tokens.now m.LeftParen c.in_default.is
+    c.in_ok-inside.ensures.token) c.in_err-brackets.ensures.reads)
+
+pub declarator_tail-returns-in_ok-arguments-clause-reads :
+    goal.declarator_tail-returns-in_ok-arguments-clause-reads
+declarator_tail-returns-in_ok-arguments-clause-reads t c = λ n.
+    let (e, i, q) = entered c.args.depth c.args.tokens.now m.LeftParen c.in-Some.is
+    c.in_ok-inside.ensures.token in
+    rw (view-Arguments n c.in_ok-arguments.arguments)
+    (given_made c.args.depth c.in-Some.inside (with_arguments n) (plain_tail c.args.depth n) q e i
+    c.in_ok-arguments.ensures.reads)
+
+pub declarator_tail-returns-in_ok-brackets-clause-reads :
+    goal.declarator_tail-returns-in_ok-brackets-clause-reads
+declarator_tail-returns-in_ok-brackets-clause-reads t c = λ n.
+    rw (view-Brackets n c.in_ok-brackets.brackets)
+    (brackets_made c.args.depth n
+    (not_entered c.args.depth c.args.tokens.now m.LeftParen c.in_default.is
+    c.in_ok-inside.ensures.token) c.in_ok-brackets.ensures.reads)
+
+pub object-returns-in_err-inside-clause-reads : goal.object-returns-in_err-inside-clause-reads
+object-returns-in_err-inside-clause-reads t c =
+    let p = err_from_is_err_and c.from_residual.result c.from_residual.ensures.1 in
+    rw (p.1, p.2) (given_deep c.args.depth (object_with c.args.line c.args.base)
+    (sized c.args.depth c.args.line c.args.base) _ c.in_err-inside.ensures.token)
+
+pub object-returns-in_err-arguments-clause-reads : goal.object-returns-in_err-arguments-clause-reads
+object-returns-in_err-arguments-clause-reads t c =
+    let (e, i, q) = entered c.args.depth c.args.tokens.now m.LeftParen c.in-Some.is
+    c.in_ok-inside.ensures.token in
+    let p = err_from_is_err_and c.from_residual-in_err-arguments.result
+    c.from_residual-in_err-arguments.ensures.1 in
+    rw (p.1, p.2) (given_fault c.args.depth c.in-Some.inside (object_with c.args.line c.args.base)
+    (sized c.args.depth c.args.line c.args.base) _ q e i c.in_err-arguments.ensures.reads)
+
+pub object-returns-in_err-sizes-clause-reads : goal.object-returns-in_err-sizes-clause-reads
+object-returns-in_err-sizes-clause-reads t c =
+    let p = err_from_is_err_and c.from_residual-in_err-sizes.result
+    c.from_residual-in_err-sizes.ensures.1 in
+    rw (p.1, p.2) (sizes_fault c.args.tokens.now c.args.depth c.args.line c.args.base _
+    (not_entered c.args.depth c.args.tokens.now m.LeftParen c.in_default.is
+    c.in_ok-inside.ensures.token) c.in_err-sizes.ensures.reads)
+
+pub object-returns-in_ok-object_with-clause-reads :
+    goal.object-returns-in_ok-object_with-clause-reads
+object-returns-in_ok-object_with-clause-reads t c =
+    let (e, i, q) = entered c.args.depth c.args.tokens.now m.LeftParen c.in-Some.is
+    c.in_ok-inside.ensures.token in
+    object_made c.args.depth c.in-Some.inside c.args.line c.args.base q e i
+    c.in_ok-arguments.ensures.reads c.in_ok-object_with.ensures
+
+pub object-returns-in_ok-object-clause-reads : goal.object-returns-in_ok-object-clause-reads
+object-returns-in_ok-object-clause-reads t c = sizes_made c.args.depth c.args.line c.args.base
+    (not_entered c.args.depth c.args.tokens.now m.LeftParen c.in_default.is
+    c.in_ok-inside.ensures.token) c.in_ok-sizes.ensures.reads c.in_ok-object.ensures

@@ -65,6 +65,12 @@ decreases-brackets l = length l.tokens.now * 32
 abbrev pub decreases-sizes : goal.decreases-sizes
 decreases-sizes l = length l.tokens.now * 32
 
+abbrev pub decreases-declarator_tail : goal.decreases-declarator_tail
+decreases-declarator_tail l = length l.tokens.now * 32 + 1
+
+abbrev pub decreases-object : goal.decreases-object
+decreases-object l = length l.tokens.now * 32 + 1
+
 abbrev pub invariant-exprs-loop-behind : goal.invariant-exprs-loop-behind
 invariant-exprs-loop-behind l = Leads (λ k. some_exprs l.depth k)
     (λ k. more_exprs l.depth (exprs_of no_exprs l.items.items) k) l.tokens l.rest

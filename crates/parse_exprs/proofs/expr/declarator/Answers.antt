@@ -7,13 +7,13 @@ returns-in_err-name-clause-reads c =
     let p = err_from_is_err_and c.from_residual.result c.from_residual.ensures.1 in
     rw (p.1, p.2) (no_declr_name c.args.tokens.now c.args.depth _ c.in_err-name.ensures.token)
 
-pub returns-in_err-brackets-clause-reads : goal.returns-in_err-brackets-clause-reads
-returns-in_err-brackets-clause-reads c =
-    let p = err_from_is_err_and c.from_residual-in_err-brackets.result
-    c.from_residual-in_err-brackets.ensures.1 in
+pub returns-in_err-tail-clause-reads : goal.returns-in_err-tail-clause-reads
+returns-in_err-tail-clause-reads c =
+    let p = err_from_is_err_and c.from_residual-in_err-tail.result
+    c.from_residual-in_err-tail.ensures.1 in
     rw (p.1, p.2) (declr_fault c.args.depth _ c.in_ok-name.ensures.token c.requires
-    c.in_err-brackets.ensures.reads)
+    (c.in_err-tail.ensures.reads _))
 
 pub returns-clause-reads : goal.returns-clause-reads
 returns-clause-reads c =
-    made_declr c.args.depth c.in_ok-name.ensures.token c.requires c.in_ok-brackets.ensures.reads
+    made_declr c.args.depth c.in_ok-name.ensures.token c.requires (c.in_ok-tail.ensures.reads _)
