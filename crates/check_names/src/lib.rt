@@ -3,8 +3,9 @@
 //! Its one contract: [`name_meaning`] and [`member_meaning`] find what the definition says of a
 //! name where it stands, or of a member of what an expression stands for; and
 //! [`declaration_meaning`] declares what the definition says, and leaves its scope, as does
-//! [`auto_chucked`] with what is assigned to a declaration with `auto`. What they refuse is exactly the fault of the definition. Only want of memory is a free answer. The typing
-//! of whole expressions stands on it.
+//! [`auto_chucked`] with what is assigned to a declaration with `auto`. What they refuse is
+//! exactly the fault of the definition. Only want of memory is a free answer. The typing of whole
+//! expressions stands on it.
 #![tactic(auto)]
 
 mod autos;

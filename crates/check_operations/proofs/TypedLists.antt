@@ -21,15 +21,20 @@ all_of p [] = refl
 all_of p (x ∷ xs) = ap (λ rest. p (view_typed x) && rest) (all_of p xs)
 
 -- the first values are all so, and one more
-pub all_more : (p : Typed → Bool) (xs : List TypedValue) (i : ℕ) (x : TypedValue) → i < length xs → x ≡ get_or xs i x → p (view_typed x) ≡ true
+pub all_more : (p : Typed → Bool) (xs : List TypedValue) (i : ℕ) (x : TypedValue) → i < length xs → x ≡ get_or xs i x
+    → p (view_typed x) ≡ true
     → list_all (λ y. p (view_typed y)) (take i xs) ≡ true → list_all (λ y. p (view_typed y)) (take (i + 1) xs) ≡ true
-all_more p xs i x lt is so_is all = list_all_more (λ y. p (view_typed y)) xs i x lt ∙ ap (λ b. b && p (view_typed (get_or xs i x))) all ∙ ap (λ y. p (view_typed y)) (sym is) ∙ so_is
+all_more p xs i x lt is so_is all = list_all_more (λ y. p (view_typed y)) xs i x lt
+    ∙ ap (λ b. b && p (view_typed (get_or xs i x))) all ∙ ap (λ y. p (view_typed y)) (sym is) ∙ so_is
 
-pub all_done : (p : Typed → Bool) (xs : List TypedValue) (i : ℕ) → length xs ≤ i → list_all (λ y. p (view_typed y)) (take i xs) ≡ true → list_all p (all_typed xs) ≡ true
+pub all_done : (p : Typed → Bool) (xs : List TypedValue) (i : ℕ) → length xs ≤ i
+    → list_all (λ y. p (view_typed y)) (take i xs) ≡ true → list_all p (all_typed xs) ≡ true
 all_done p xs i past all = all_of p xs ∙ ap (list_all (λ y. p (view_typed y))) (sym (take_all i xs past)) ∙ all
 
-pub all_stop : (p : Typed → Bool) (xs : List TypedValue) (i : ℕ) (x : TypedValue) → i < length xs → x ≡ get_or xs i x → p (view_typed x) ≡ false → list_all p (all_typed xs) ≡ false
-all_stop p xs i x lt is not_so = all_of p xs ∙ list_all_at (λ y. p (view_typed y)) xs i x lt (ap (λ y. p (view_typed y)) (sym is) ∙ not_so)
+pub all_stop : (p : Typed → Bool) (xs : List TypedValue) (i : ℕ) (x : TypedValue) → i < length xs → x ≡ get_or xs i x
+    → p (view_typed x) ≡ false → list_all p (all_typed xs) ≡ false
+all_stop p xs i x lt is not_so = all_of p xs ∙ list_all_at (λ y. p (view_typed y)) xs i x lt
+    (ap (λ y. p (view_typed y)) (sym is) ∙ not_so)
 
 -- one more at the end
 abbrev and_last : Exprs → Expr → Exprs
@@ -40,18 +45,22 @@ exprs_more : (es : List TypedExpr) (e : TypedExpr) → exprs_of (es ++ e ∷ [])
 exprs_more [] e = refl
 exprs_more (first ∷ es) e = ap (more_exprs (view_expr first)) (exprs_more es e)
 
-taken_more : (xs : List TypedValue) (x : TypedValue) (k : Kind) → all_taken_as (all_typed (xs ++ x ∷ [])) k ≡ and_last (all_taken_as (all_typed xs) k) (taken_as (view_typed x) k)
+taken_more : (xs : List TypedValue) (x : TypedValue) (k : Kind)
+    → all_taken_as (all_typed (xs ++ x ∷ [])) k ≡ and_last (all_taken_as (all_typed xs) k) (taken_as (view_typed x) k)
 taken_more [] x k = refl
 taken_more (first ∷ xs) x k = ap (more_exprs (taken_as (view_typed first) k)) (taken_more xs x k)
 
 -- one more value taken over
-pub one_more_taken : (done more : List TypedExpr) (e : TypedExpr) (xs : List TypedValue) (x : TypedValue) (k : Kind) → more ≡ done ++ e ∷ [] → view_expr e ≡ taken_as (view_typed x) k
+pub one_more_taken : (done more : List TypedExpr) (e : TypedExpr) (xs : List TypedValue) (x : TypedValue) (k : Kind)
+    → more ≡ done ++ e ∷ [] → view_expr e ≡ taken_as (view_typed x) k
     → exprs_of done ≡ all_taken_as (all_typed xs) k → exprs_of more ≡ all_taken_as (all_typed (xs ++ x ∷ [])) k
 one_more_taken done more e xs x k longer taken so =
-    ap exprs_of longer ∙ exprs_more done e ∙ ap (λ es. and_last es (view_expr e)) so ∙ ap (and_last (all_taken_as (all_typed xs) k)) taken ∙ sym (taken_more xs x k)
+    ap exprs_of longer ∙ exprs_more done e ∙ ap (λ es. and_last es (view_expr e)) so
+    ∙ ap (and_last (all_taken_as (all_typed xs) k)) taken ∙ sym (taken_more xs x k)
 
 -- more than two sizes
-pub many_sizes : (t : Table) (s : Scope) (l : ℕ) (e : Elem) (xs : List TypedValue) (before last : TypedValue) → 0 < length xs → new_array t s l e (all_typed ((xs ++ before ∷ []) ++ last ∷ [])) ≡ mismatch s l
+pub many_sizes : (t : Table) (s : Scope) (l : ℕ) (e : Elem) (xs : List TypedValue) (before last : TypedValue)
+    → 0 < length xs → new_array t s l e (all_typed ((xs ++ before ∷ []) ++ last ∷ [])) ≡ mismatch s l
 many_sizes t s l e [] before last some = absurd (omega (arith, some))
 many_sizes t s l e (x ∷ []) before last some = refl
 many_sizes t s l e (x ∷ y ∷ []) before last some = refl

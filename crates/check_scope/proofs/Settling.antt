@@ -55,5 +55,6 @@ found_new i j k settled none =
     by false other None is = refl
     by false other (Some one) is = refl
     by true same None is = refl
-    by true same (Some one) is = absurd (true≢false (sym (none ∙ ap (λ n. is_some (kind_at n settled)) (eqb-true j i same)
+    by true same (Some one) is = absurd (true≢false
+        (sym (none ∙ ap (λ n. is_some (kind_at n settled)) (eqb-true j i same)
         ∙ ap (λ o. is_some (option_map (λ (one : ℕ × Kind). one.1) o)) is)))

@@ -246,7 +246,8 @@ pass-each {l = l} {q = q} {b = b} {r = r} {n = n} {ts = ts} i at p j colon d f k
     (onward (pass-head (of_head i at) p d (each_or d f k) _)
     (onward (pass-rest {n = n} (as_brackets j) (no_paren_colon colon) (no_bracket_colon colon) d
     (λ x. each_or d f k l h x))
-    (pass-colon d f h (declr n (empties q)) (empty_pairs (empties q)) (declares_or d k l h (declr n (empties q))) q (counted q) colon))))
+    (pass-colon d f h (declr n (empties q)) (empty_pairs (empties q)) (declares_or d k l h (declr n (empties q))) q
+    (counted q) colon))))
   where
     no_paren_colon : {a b : List Token} → Then (Mark m.Colon) a b → has (a_mark m.LeftParen) a ≡ false
     no_paren_colon then = refl

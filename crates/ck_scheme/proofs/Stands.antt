@@ -300,11 +300,13 @@ module _ (code : CodeParts) (f : ℕ) where
 module _ (classes : List Class) (texts : List (List ℕ)) (code : CodeParts) (f : ℕ) where
   pub split_expr : (e : Expr) (p : ℕ) (b : List Step) → HasAt code f p (expr_code classes texts p e ++ b)
       → (HasAt code f p (expr_code classes texts p e)) × (HasAt code f (expr_end classes p e) b)
-  split_expr e p b h = split code f (expr_code classes texts p e) b p (expr_end classes p e) (expr_length classes texts e p) h
+  split_expr e p b h = split code f (expr_code classes texts p e) b p (expr_end classes p e)
+      (expr_length classes texts e p) h
 
   pub split_args : (args : Exprs) (p : ℕ) (b : List Step) → HasAt code f p (args_code classes texts p args ++ b)
       → (HasAt code f p (args_code classes texts p args)) × (HasAt code f (args_end classes p args) b)
-  split_args args p b h = split code f (args_code classes texts p args) b p (args_end classes p args) (args_length classes texts args p) h
+  split_args args p b h = split code f (args_code classes texts p args) b p (args_end classes p args)
+      (args_length classes texts args p) h
 
   pub split_test : (until : Bool) (c : Expr) (place : Place) (p : ℕ) (b : List Step)
       → HasAt code f p (test_code classes texts until p c place ++ b)
@@ -317,7 +319,8 @@ module _ (classes : List Class) (texts : List (List ℕ)) (code : CodeParts) (f 
       → HasAt code f p (stmt_code classes texts out again p t ++ b)
       → (HasAt code f p (stmt_code classes texts out again p t)) × (HasAt code f (stmt_end classes p t) b)
   split_stmt t out again p b h =
-      split code f (stmt_code classes texts out again p t) b p (stmt_end classes p t) (stmt_length classes texts t out again p) h
+      split code f (stmt_code classes texts out again p t) b p (stmt_end classes p t)
+      (stmt_length classes texts t out again p) h
 
 -- all the steps of a function stand in it
 pub stands_all : (code : CodeParts) (f : ℕ) (before steps : List Step)

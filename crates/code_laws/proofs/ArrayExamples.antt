@@ -126,13 +126,15 @@ so_many = refl
 -- the source comes to 112
 by_source : value_of (shred_from program 1 main_fun [] (first_store 1 []) [])
     ≡ Some (AnInt (pos 112))
-unfolding nearest_in_range binary local_of with_local referred field_of with_field added fresh bodies_of object_made array_at item_at item_of with_item grown appended size_of row_made array_made is_within has_item next_index filled
+unfolding nearest_in_range binary local_of with_local referred field_of with_field added fresh bodies_of object_made
+    array_at item_at item_of with_item grown appended size_of row_made array_made is_within has_item next_index filled
 by_source = refl
 
 -- so does the code
 by_code : ended (code_run parts 1 90 (fun_frames 0 main_fun []) (first_state (first_store 1 [])) [])
     ≡ Some (AnInt (pos 112))
-unfolding nearest_in_range binary local_of with_local referred field_of with_field added fresh bodies_of object_made array_at item_at item_of with_item grown appended size_of row_made array_made is_within has_item next_index filled
+unfolding nearest_in_range binary local_of with_local referred field_of with_field added fresh bodies_of object_made
+    array_at item_at item_of with_item grown appended size_of row_made array_made is_within has_item next_index filled
 by_code = refl
 
 -- the program is well formed ----------------------------------------------------------------------

@@ -230,7 +230,8 @@ module _ (program : Program) (fine : IsWellFormed program) (locals : List Kind) 
             let ca = cut a h.1.0 h.1.1 under start _ cc1.1.1 in
             let second = expr_end classes start a + 1 in
             join_expr c (at (JumpZero second) place
-            ∷ (expr_code classes (texts_of program) start a ++ (at (Jump (expr_end classes second b)) place ∷ expr_code classes (texts_of program) second b))) p
+            ∷ (expr_code classes (texts_of program) start a
+            ++ (at (Jump (expr_end classes second b)) place ∷ expr_code classes (texts_of program) second b))) p
             (expr_fine c h.0.0 h.0.1 shaped.0 under p cc1.0 (reached (expr_end classes p c) (h.0.0 ∷ under) cc1.1.0)) (
               (
                 h.0.0 ∷ under,
@@ -244,7 +245,8 @@ module _ (program : Program) (fine : IsWellFormed program) (locals : List Kind) 
                   ),
                 ),
               ),
-              join_expr a (at (Jump (expr_end classes second b)) place ∷ expr_code classes (texts_of program) second b) start
+              join_expr a (at (Jump (expr_end classes second b)) place ∷ expr_code classes (texts_of program) second b)
+                  start
                   (expr_fine a h.1.0 h.1.1 shaped.1 under start ca.0
                   (reached (expr_end classes start a) (h.1.0 ∷ under) ca.1.0)) (
                     (h.1.0 ∷ under, ca.1.0, on_less (expr_end classes second b) h.1.0 k under h.1.2 end),
@@ -416,8 +418,10 @@ module _ (program : Program) (fine : IsWellFormed program) (locals : List Kind) 
         expr_fine (NewObjects _ n constructor place) k h shaped under p placed end = absurd h.0
 
         pub args_fine : (args : Exprs) (js : List Kind) (h : AllHave program locals args js)
-            → AllShaped program args → (under : List Kind) (p : ℕ) → Placed p (args_shapes program fine locals under args js h)
-            → AreAt places (args_end classes p args) (kinds_on js under) → Fine p (args_code classes (texts_of program) p args)
+            → AllShaped program args → (under : List Kind) (p : ℕ)
+            → Placed p (args_shapes program fine locals under args js h)
+            → AreAt places (args_end classes p args) (kinds_on js under)
+            → Fine p (args_code classes (texts_of program) p args)
         args_fine no_exprs js h shaped under p placed end = tt
         args_fine (more_exprs e rest) [] h shaped under p placed end = absurd h
         args_fine (more_exprs e rest) (j ∷ js) h shaped under p placed end =

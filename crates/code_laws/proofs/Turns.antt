@@ -36,12 +36,14 @@ module _ (classes : List Class) (texts : List (List ℕ)) (w : List Step) where
 
   cut_args : (args : Exprs) (b : List Step) (p : ℕ) → At w p (args_code classes texts p args ++ b)
       → (At w p (args_code classes texts p args)) × (At w (args_end classes p args) b)
-  cut_args args b p h = at_split w (args_code classes texts p args) b p (args_end classes p args) (args_length classes texts args p) h
+  cut_args args b p h = at_split w (args_code classes texts p args) b p (args_end classes p args)
+      (args_length classes texts args p) h
 
   cut_stmt : (t : Stmt) (out again p : ℕ) (b : List Step) → At w p (stmt_code classes texts out again p t ++ b)
       → (At w p (stmt_code classes texts out again p t)) × (At w (stmt_end classes p t) b)
   cut_stmt t out again p b h =
-      at_split w (stmt_code classes texts out again p t) b p (stmt_end classes p t) (stmt_length classes texts t out again p) h
+      at_split w (stmt_code classes texts out again p t) b p (stmt_end classes p t)
+      (stmt_length classes texts t out again p) h
 
   -- a turn stands at a place
   turn_at : (p : ℕ) (place : Place) → slice_get w p ≡ Some (at Turn place)

@@ -414,7 +414,8 @@ module _ (program : Program) (fine : IsWellFormed program) (locals : List Kind) 
         )
     shapes_length (NewObjects _ n constructor place) k h under p = absurd h.0
 
-    pub args_shapes_length : (args : Exprs) (js : List Kind) (h : AllHave program locals args js) (under : List Kind) (p : ℕ)
+    pub args_shapes_length : (args : Exprs) (js : List Kind) (h : AllHave program locals args js) (under : List Kind)
+        (p : ℕ)
         → p + length (args_shapes under args js h) ≡ args_end classes p args
     args_shapes_length no_exprs js h under p = omega arith
     args_shapes_length (more_exprs e rest) [] h under p = absurd h

@@ -36,29 +36,38 @@ module _ (p : Program) (t : Table) (has : Has p t) where
   value_kind_is Null within some = absurd (cc)
 
   -- the value is assigned to what was declared with its kind
-  assigned_to_is : (s u : Scope) (to : Spot) (x : Typed) (l : ℕ) → is_no_type x.kind ≡ false → ((all : List Kind) → Ends p t s all → IsValue p t all x)
-      → IsScope t u → Grows s u → ((all : List Kind) → ValueIn (many t) x.kind → Leads p u all → Ends p t s all → Ends p t u all)
-      → ((all : List Kind) → Ends p t u all → IsAt p all to typed.no_exprs x.kind) → Ok (IsMeant p t s) (assigned_to to x l u)
+  assigned_to_is : (s u : Scope) (to : Spot) (x : Typed) (l : ℕ) → is_no_type x.kind ≡ false
+      → ((all : List Kind) → Ends p t s all → IsValue p t all x)
+      → IsScope t u → Grows s u → ((all : List Kind) → ValueIn (many t) x.kind → Leads p u all → Ends p t s all
+      → Ends p t u all)
+      → ((all : List Kind) → Ends p t u all → IsAt p all to typed.no_exprs x.kind)
+      → Ok (IsMeant p t s) (assigned_to to x l u)
   assigned_to_is s u to x l some is scope grows carries at_place =
-      let value : (all : List Kind) → Ends p t s all → ValueIn (many t) x.kind = λ all ends. value_kind_is x.kind (is all ends).1 some in (
+      let value : (all : List Kind) → Ends p t s all
+      → ValueIn (many t) x.kind = λ all ends. value_kind_is x.kind (is all ends).1 some in (
         (scope, grows, λ all leads ends. carries all (value all ends) leads ends),
         λ all ends.
             let before = ends_before p t s u all grows ends in
-            let valued : Valued p t all x.expr x.kind = subst (Valued p t all x.expr) (given_value (many t) x.kind (value all before)) (is all before).0 in
-            value_is p t has all (typed.Assign x.expr to typed.no_exprs (place u l)) x.kind (place u l) (at_place all ends, valued) (value all before),
+            let valued : Valued p t all x.expr x.kind = subst (Valued p t all x.expr)
+            (given_value (many t) x.kind (value all before)) (is all before).0 in
+            value_is p t has all (typed.Assign x.expr to typed.no_exprs (place u l)) x.kind (place u l)
+            (at_place all ends, valued) (value all before),
       )
 
-  module _ (s : Scope) (l k : ℕ) (x : Typed) (scope : IsScope t s) (is : (all : List Kind) → Ends p t s all → IsValue p t all x) where
+  module _ (s : Scope) (l k : ℕ) (x : Typed) (scope : IsScope t s)
+      (is : (all : List Kind) → Ends p t s all → IsValue p t all x) where
     variable_settled : (v : Option Variable) → is_no_type x.kind ≡ false → Ok (IsMeant p t s) (auto_variable s l k x v)
     variable_settled None some = tt
     variable_settled (Some v) some =
         ok_if (IsMeant p t s) (is_void (kind_now s v)) _ _ (λ _.
-        assigned_to_is s (settle s v.index x.kind) (spot.Static v.index) x l some is (settle_is t s v.index x.kind scope) (settle_grows t s v.index x.kind)
+        assigned_to_is s (settle s v.index x.kind) (spot.Static v.index) x l some is
+        (settle_is t s v.index x.kind scope) (settle_grows t s v.index x.kind)
         (λ all value leads ends. settle_ends p t s v.index x.kind all value leads ends)
         (λ all ends. (each_last (HasSettled p t) s.settled (v.index, x.kind) ends.settled).0))
         (λ _. tt)
 
-    auto_global_is : (n : Name) (class : Option ℕ) → is_no_type x.kind ≡ false → Ok (IsMeant p t s) (auto_global t s l k x n class)
+    auto_global_is : (n : Name) (class : Option ℕ) → is_no_type x.kind ≡ false
+        → Ok (IsMeant p t s) (auto_global t s l k x n class)
     auto_global_is n None some = variable_settled (variable_named t s.file n) some
     auto_global_is n (Some c) some = tt
 
@@ -66,17 +75,20 @@ module _ (p : Program) (t : Table) (has : Has p t) where
     auto_declared_is n some =
         ok_if (IsMeant p t s) (declares_globals s) _ _ (λ _. auto_global_is n s.class some) (λ _.
         ok_if (IsMeant p t s) (is_declared s n) _ _ (λ _. tt) (λ _.
-        assigned_to_is s (with_local s n x.kind) (spot.Local (length s.locals)) x l some is (with_local_is t s n x.kind scope) (with_local_grows t s n x.kind)
+        assigned_to_is s (with_local s n x.kind) (spot.Local (length s.locals)) x l some is
+        (with_local_is t s n x.kind scope) (with_local_grows t s n x.kind)
         (λ all value leads ends. local_ends p t s n x.kind all value leads ends)
         (λ all ends. new_local t s n x.kind all (leads_of p t (with_local s n x.kind) all ends))))
 
-    auto_assigned_is : (references : Bool) (n : Name) (has_form : Bool) → Ok (IsMeant p t s) (auto_assigned t s l k references x n has_form)
+    auto_assigned_is : (references : Bool) (n : Name) (has_form : Bool)
+        → Ok (IsMeant p t s) (auto_assigned t s l k references x n has_form)
     auto_assigned_is references n has_form =
         ok_if (IsMeant p t s) (is_no_type x.kind) _ _ (λ _. tt) (λ some.
         ok_if (IsMeant p t s) (not has_form) _ _ (λ _. tt) (λ _.
         ok_if (IsMeant p t s) (not references && are_references x.kind) _ _ (λ _. tt) (λ _. auto_declared_is n some)))
 
-    pub auto_chucked_is : (o : ChuckOp) (n : Name) (has_form : Bool) → Ok (IsMeant p t s) (auto_chucked t s l k o x n has_form)
+    pub auto_chucked_is : (o : ChuckOp) (n : Name) (has_form : Bool)
+        → Ok (IsMeant p t s) (auto_chucked t s l k o x n has_form)
     auto_chucked_is chuck_op.Chuck n has_form = auto_assigned_is false n has_form
     auto_chucked_is chuck_op.Assign n has_form = auto_assigned_is true n has_form
     auto_chucked_is _ n has_form = tt

@@ -42,15 +42,18 @@ Ok P (refused why) = Unit {0}
 -- a function that is called by its number
 abbrev pub PlainFun : Program → Table → (fun : ℕ) → Type 0
 PlainFun p t f =
-    FoundWhere (slice_get p.funs f) (λ fn. (params_of fn ≡ (fun_of t f).params) × (fn.result ≡ given (fun_of t f).result)) × KindIn (many t) (fun_of t f).result
+    FoundWhere (slice_get p.funs f) (λ fn. (params_of fn ≡ (fun_of t f).params)
+    × (fn.result ≡ given (fun_of t f).result)) × KindIn (many t) (fun_of t f).result
 
 -- a function that is called by a slot of a class
 abbrev pub SlotFun : Program → Table → (class slot fun : ℕ) → Type 0
 SlotFun p t c slot f =
-    Methods p c slot (λ fn. (drop 1 (params_of fn) ≡ (fun_of t f).params) × (fn.result ≡ given (fun_of t f).result)) × KindIn (many t) (fun_of t f).result
+    Methods p c slot (λ fn. (drop 1 (params_of fn) ≡ (fun_of t f).params) × (fn.result ≡ given (fun_of t f).result))
+    × KindIn (many t) (fun_of t f).result
 
 abbrev pub MemberIs : Program → Table → (class : ℕ) → Member → Type 0
-MemberIs p t c (member.Field i k) = FoundWhere (slice_get p.classes c) (λ class. slice_get class.fields i ≡ Some k) × ValueIn (many t) k
+MemberIs p t c (member.Field i k) = FoundWhere (slice_get p.classes c) (λ class. slice_get class.fields i ≡ Some k)
+    × ValueIn (many t) k
 MemberIs p t c (member.Static i k) = (slice_get p.statics i ≡ Some k) × ValueIn (many t) k
 MemberIs p t c (member.Fun f None) = PlainFun p t f
 MemberIs p t c (member.Fun f (Some slot)) = SlotFun p t c slot f
@@ -71,7 +74,8 @@ pub record Has (p : Program) (t : Table) : Type 0 where
   pub two : 2 ≤ many t
   pub below : (c d : ℕ) → c < many t → is_below t.parents c d ≡ true → IsBelow p.classes c d
   pub named : (file c : ℕ) (n : Name) → class_named t file n ≡ Some c → c < many t
-  pub variable : (file : ℕ) (n : Name) (v : Variable) → variable_named t file n ≡ Some v → is_void v.kind ≡ false → HasStatic p t v.index v.kind
+  pub variable : (file : ℕ) (n : Name) (v : Variable) → variable_named t file n ≡ Some v → is_void v.kind ≡ false
+      → HasStatic p t v.index v.kind
   pub fun : (file f : ℕ) (n : Name) → fun_named t file n ≡ Some f → PlainFun p t f
   pub params : (f : ℕ) → Each (ValueIn (many t)) (fun_of t f).params
   pub member : (c : ℕ) (n : Name) (m : Member) → c < many t → member_named t c n ≡ Some m → MemberIs p t c m
@@ -161,7 +165,9 @@ module _ (p : Program) (t : Table) (all : List Kind) where
   -- a unit generator has this parameter
   abbrev pub HasParameter : typed.Expr → Settable → Type 0
   HasParameter u q =
-      (k : UgenKind) × Valued u (One (elem.Unit k)) × (parameter k q.param ≡ Some (record { elem = q.elem; is_read_only = q.is_read_only })) × ElemIn (many t) q.elem
+      (k : UgenKind) × Valued u (One (elem.Unit k))
+      × (parameter k q.param ≡ Some (record { elem = q.elem; is_read_only = q.is_read_only }))
+      × ElemIn (many t) q.elem
 
   abbrev pub IsCallee : Callee → Type 0
   IsCallee (numbered f) = PlainFun p t f

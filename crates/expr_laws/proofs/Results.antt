@@ -1,4 +1,5 @@
--- What is right of the results of typing: the scope behind, and, whatever locals the function has in the end, what was typed.
+-- What is right of the results of typing: the scope behind, and, whatever locals the function has in the end, what was
+-- typed.
 use Rattle.std.specs.Prelude.{◌≡◌, List, Some}
 use Rattle.ck_values.specs.declared.kind.Kind.{Kind}
 use Rattle.ck_typed.specs.Tree.{Program}
@@ -23,4 +24,5 @@ abbrev pub IsValued : Program → Table → Scope → Valued → Type 0
 IsValued p t s x = IsBehind p t s x.scope × ((all : List Kind) → Ends p t x.scope all → IsValue p t all x.typed)
 
 abbrev pub AreValued : Program → Table → Scope → AllValued → Type 0
-AreValued p t s xs = IsBehind p t s xs.scope × ((all : List Kind) → Ends p t xs.scope all → Each (IsValue p t all) xs.typed)
+AreValued p t s xs = IsBehind p t s xs.scope × ((all : List Kind) → Ends p t xs.scope all
+    → Each (IsValue p t all) xs.typed)

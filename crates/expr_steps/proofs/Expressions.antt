@@ -194,7 +194,8 @@ module _ (n : ℕ) (s : Scope) (l : ℕ) where
 
   object_first : (t : Table) (i : Elem) (xs : List Typed) → IsFirst (total xs) (e.object_made t s l i xs)
   object_first t i xs =
-      ok_map (λ (x : typed.Expr). most x ≤ total xs + object_most) (λ (x : typed.Expr). most x ≤ total xs + bodies_most + 7)
+      ok_map (λ (x : typed.Expr). most x ≤ total xs + object_most)
+      (λ (x : typed.Expr). most x ≤ total xs + bodies_most + 7)
       (e.object_made t s l i xs) (λ x few. omega (arith, few)) (object_made_most t s l i xs)
 
   default_first : (t : Table) (i : Elem) → IsFirst 0 (e.default_value t s l i)
@@ -219,7 +220,8 @@ module _ (n : ℕ) (s : Scope) (l : ℕ) where
   first_value_first : (t : Table) (r : Bool) (k : Kind) (x : Making) → IsFirst (total_of x) (e.first_value t s l r k x)
   first_value_first t r k (e.with_sizes (a ∷ b ∷ rest)) = omega arith
   first_value_first t r k (e.with_sizes (a ∷ [])) =
-      ok_map (λ (x : typed.Expr). most x ≤ most a.expr + bodies_most + 7) (λ (x : typed.Expr). most x ≤ total (a ∷ []) + bodies_most + 7)
+      ok_map (λ (x : typed.Expr). most x ≤ most a.expr + bodies_most + 7)
+      (λ (x : typed.Expr). most x ≤ total (a ∷ []) + bodies_most + 7)
       (e.row_of t s l r (e.elem_of k) a.expr) (λ x few. omega (arith, few)) (row_first t r (e.elem_of k) a.expr)
   first_value_first t false (One i) (e.with_sizes []) = default_first t i
   first_value_first t r k (e.with_sizes []) = omega (arith, null_most k (place s l))
@@ -355,7 +357,8 @@ module _ (n : ℕ) (t : Table) where
 
   chucked_costs : (s : Scope) (l : ℕ) (o : ChuckOp) (x : Typed) (b : Expr) (y : Denotation)
       → most x.expr + cost y + 6 ≤ n → Ok (MeantCosts n) (e.chucked t s l o x b y)
-  chucked_costs s l o x b (m.an_auto name has_form) few = auto_chucked_costs s l (expr_line b) o x name has_form (omega arith)
+  chucked_costs s l o x b (m.an_auto name has_form) few = auto_chucked_costs s l (expr_line b) o x name has_form
+      (omega arith)
   chucked_costs s l o x b y few =
       in_scope_costs n s _ (costs_if n (e.is_now b) _ _
       (now_costs n s l t.parents o x (omega arith)) (chuck_costs n s l t (expr_line b) o x y few))
@@ -487,7 +490,8 @@ module _ (t : Table) where
     meaning_costs s (tree.declare l h (declr_with name es)) =
         let all = expr_size (tree.declare l h (declr_with name es)) in
         ok_then (AllWithin (exprs_size es)) (MeansWithin all) (values t s es) _ (values_cost s es) (λ xs few.
-        declaration_costs (token_steps * all) t xs.scope l h (declr_with name es) (e.with_arguments xs.typed) (omega arith))
+        declaration_costs (token_steps * all) t xs.scope l h (declr_with name es) (e.with_arguments xs.typed)
+        (omega arith))
     meaning_costs s (tree.chuck l a o b) =
         let all = expr_size a + expr_size b + 1 in
         after_value s a all _ (meaning_costs s a) (λ x few.
@@ -523,4 +527,5 @@ module _ (t : Table) where
       let all = exprs_size es + 3 in
       value_of_costs (token_steps * all) l (meaning t s (tree.declare l h (declr_with name es)))
       (ok_then (AllWithin (exprs_size es)) (MeansWithin all) (values t s es) _ (values_cost s es) (λ xs few.
-      declaration_costs (token_steps * all) t xs.scope l h (declr_with name es) (e.with_arguments xs.typed) (omega arith)))
+      declaration_costs (token_steps * all) t xs.scope l h (declr_with name es) (e.with_arguments xs.typed)
+      (omega arith)))

@@ -60,12 +60,14 @@ made_by_most : (t : Table) (s : Scope) (l : ℕ) (o : typed.Expr) (xs : List Typ
 made_by_most t s l o [] None = omega arith
 made_by_most t s l o (x ∷ xs) None = tt
 made_by_most t s l o xs (Some f) =
-    constructed_most s l o f xs (e.fitted t.parents xs (fun_of t f).params) (fitted_total t.parents xs (fun_of t f).params)
+    constructed_most s l o f xs (e.fitted t.parents xs (fun_of t f).params)
+    (fitted_total t.parents xs (fun_of t f).params)
 
 pub object_made_most : (t : Table) (s : Scope) (l : ℕ) (i : Elem) (xs : List Typed)
     → Ok (λ (x : typed.Expr). most x ≤ total xs + object_most) (e.object_made t s l i xs)
 object_made_most t s l (elem.Class c) xs =
-    ok_map (λ (x : typed.Expr). most x ≤ most (typed.New c (place s l)) + total xs + 3) (λ (x : typed.Expr). most x ≤ total xs + object_most)
+    ok_map (λ (x : typed.Expr). most x ≤ most (typed.New c (place s l)) + total xs + 3)
+    (λ (x : typed.Expr). most x ≤ total xs + object_most)
     (e.made_by t s l (typed.New c (place s l)) xs (construct t c)) (λ x few. omega (arith, few))
     (made_by_most t s l (typed.New c (place s l)) xs (construct t c))
 object_made_most t s l (elem.Unit UGen) xs = tt
@@ -241,18 +243,21 @@ module _ (n : ℕ) (s : Scope) (l : ℕ) where
       ok_then (λ (x : typed.Expr). most x ≤ total xs + object_most) (λ (y : Denotation). cost y ≤ n)
       (e.object_made t s l i xs) _ (object_made_most t s l i xs) (λ x small. omega (arith, small))
 
-  new_array_costs : (t : Table) (i : Elem) (sizes : List Typed) → total sizes + 400 ≤ n → Costs n (e.new_array t s l i sizes)
+  new_array_costs : (t : Table) (i : Elem) (sizes : List Typed) → total sizes + 400 ≤ n
+      → Costs n (e.new_array t s l i sizes)
   new_array_costs t i [] few = new_object_costs t i [] few
   new_array_costs t i (a ∷ []) few = costs_if n (e.is_new_item i && e.is_int a.kind) _ _ (omega arith) tt
   new_array_costs t i (a ∷ b ∷ []) few = costs_if n (e.is_new_item i && e.are_ints a b) _ _ (omega arith) tt
   new_array_costs t i _ few = tt
 
-  pub new_costs : (t : Table) (w : Named) (sizes : List Typed) → total sizes + 400 ≤ n → Costs n (e.new_meaning t s l w sizes)
+  pub new_costs : (t : Table) (w : Named) (sizes : List Typed) → total sizes + 400 ≤ n
+      → Costs n (e.new_meaning t s l w sizes)
   new_costs t named.Unknown sizes few = tt
   new_costs t (named.Elem i) sizes few = new_array_costs t i sizes few
   new_costs t _ sizes few = tt
 
-  pub new_with_costs : (t : Table) (w : Named) (xs : List Typed) → total xs + 400 ≤ n → Costs n (e.new_with_meaning t s l w xs)
+  pub new_with_costs : (t : Table) (w : Named) (xs : List Typed) → total xs + 400 ≤ n
+      → Costs n (e.new_with_meaning t s l w xs)
   new_with_costs t named.Unknown xs few = tt
   new_with_costs t (named.Elem i) xs few = new_object_costs t i xs few
   new_with_costs t _ xs few = tt

@@ -23,19 +23,24 @@ changed_at (y ∷ xs) (suc i) x lt = changed_at xs i x (omega (arith, lt))
 
 module _ {A : Type 0} where
   -- what was found is found among more
-  found_among : (m : Name) (b : A) (known more : List (Name × A)) → lookup m known ≡ Some b → lookup m (known ++ more) ≡ Some b
+  found_among : (m : Name) (b : A) (known more : List (Name × A)) → lookup m known ≡ Some b
+      → lookup m (known ++ more) ≡ Some b
   found_among m b [] more is = absurd (cc)
   found_among m b (e ∷ known) more is = go (bytes_eq m e.0) (found_among m b known more) is
     where
-      go : (c : Bool) → (lookup m known ≡ Some b → lookup m (known ++ more) ≡ Some b) → (if c then Some e.1 else lookup m known) ≡ Some b → (if c then Some e.1 else lookup m (known ++ more)) ≡ Some b
+      go : (c : Bool) → (lookup m known ≡ Some b → lookup m (known ++ more) ≡ Some b)
+          → (if c then Some e.1 else lookup m known) ≡ Some b
+          → (if c then Some e.1 else lookup m (known ++ more)) ≡ Some b
       go true later at = at
       go false later at = later at
 
-  found_last : (n : Name) (a : A) (known : List (Name × A)) → lookup n known ≡ None → lookup n (known ++ (n, a) ∷ []) ≡ Some a
+  found_last : (n : Name) (a : A) (known : List (Name × A)) → lookup n known ≡ None
+      → lookup n (known ++ (n, a) ∷ []) ≡ Some a
   found_last n a [] none = ap (λ c. if c then Some a else None) ((bytes_eq-Decides n n).1 refl)
   found_last n a (e ∷ known) none = go (bytes_eq n e.0) (found_last n a known) none
     where
-      go : (c : Bool) → (lookup n known ≡ None → lookup n (known ++ (n, a) ∷ []) ≡ Some a) → (if c then Some e.1 else lookup n known) ≡ None
+      go : (c : Bool) → (lookup n known ≡ None → lookup n (known ++ (n, a) ∷ []) ≡ Some a)
+          → (if c then Some e.1 else lookup n known) ≡ None
           → (if c then Some e.1 else lookup n (known ++ (n, a) ∷ [])) ≡ Some a
       go true later at = absurd (cc)
       go false later at = later at
@@ -49,7 +54,8 @@ module _ {A : Type 0} where
         go false = found_among m b known ((n, a) ∷ []) is
 
     pub first_found : lookup n known ≡ None → lookup n (and_first n a known) ≡ Some a
-    first_found none = ap (λ o. lookup n (if is_some o then known else known ++ (n, a) ∷ [])) none ∙ found_last n a known none
+    first_found none = ap (λ o. lookup n (if is_some o then known else known ++ (n, a) ∷ [])) none
+        ∙ found_last n a known none
 
 -- tables ------------------------------------------------------------------------------------------
 
@@ -61,9 +67,11 @@ pub record Keeps (f : ℕ) (t u : Table) : Type 0 where
   pub publics : u.publics ≡ t.publics
   pub homes : (c : ℕ) → (class_of u c).file ≡ (class_of t c).file
   pub classes : (file_of u f).classes ≡ (file_of t f).classes
-  pub variables : (n : Name) (i : ℕ) → lookup n (file_of t f).variables ≡ Some i → lookup n (file_of u f).variables ≡ Some i
+  pub variables : (n : Name) (i : ℕ) → lookup n (file_of t f).variables ≡ Some i
+      → lookup n (file_of u f).variables ≡ Some i
   pub statics : (i : ℕ) (k : Kind) → slice_get t.statics i ≡ Some k → slice_get u.statics i ≡ Some k
-  pub members : (c : ℕ) (n : Name) (o : Own) → lookup n (class_of t c).members ≡ Some o → lookup n (class_of u c).members ≡ Some o
+  pub members : (c : ℕ) (n : Name) (o : Own) → lookup n (class_of t c).members ≡ Some o
+      → lookup n (class_of u c).members ≡ Some o
 
 module _ (f : ℕ) where
   pub keeps_self : (t : Table) → Keeps f t t
@@ -102,8 +110,10 @@ module _ (f : ℕ) (t u : Table) (keeps : Keeps f t u) where
 
   class_same : (n : Name) → class_named u f n ≡ class_named t f n
   class_same n =
-      ap (λ l. or_else (lookup n l) (or_else (seen_from u f (lookup n u.publics)) (as_class (built_in n)))) keeps.classes
-      ∙ ap (λ o. or_else (lookup n (file_of t f).classes) (or_else o (as_class (built_in n)))) (seen_same (lookup n u.publics) ∙ ap (λ l. seen_from t f (lookup n l)) keeps.publics)
+      ap (λ l. or_else (lookup n l) (or_else (seen_from u f (lookup n u.publics)) (as_class (built_in n))))
+      keeps.classes
+      ∙ ap (λ o. or_else (lookup n (file_of t f).classes) (or_else o (as_class (built_in n))))
+      (seen_same (lookup n u.publics) ∙ ap (λ l. seen_from t f (lookup n l)) keeps.publics)
 
   -- types' names stand for the same
   pub same_named : (b : Base) → named_by u f b ≡ named_by t f b

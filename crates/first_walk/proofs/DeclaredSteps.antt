@@ -32,11 +32,13 @@ pub gives_map : {A : Type 0} (P Q : A → Type 0) → ((a : A) → P a → Q a) 
 gives_map P Q g (gives a) so = g a so
 gives_map P Q g (refused why) so = tt
 
-pub gives_then : {A B : Type 0} (P : A → Type 0) (Q : B → Type 0) (x : Answer A) (next : A → Answer B) → GivesSuch P x → ((a : A) → P a → GivesSuch Q (next a)) → GivesSuch Q (and_then x next)
+pub gives_then : {A B : Type 0} (P : A → Type 0) (Q : B → Type 0) (x : Answer A) (next : A → Answer B) → GivesSuch P x
+    → ((a : A) → P a → GivesSuch Q (next a)) → GivesSuch Q (and_then x next)
 gives_then P Q (gives a) next so goes = goes a so
 gives_then P Q (refused why) next so goes = tt
 
-pub gives_if : {A : Type 0} (P : A → Type 0) (b : Bool) (x y : Answer A) → (b ≡ true → GivesSuch P x) → (b ≡ false → GivesSuch P y) → GivesSuch P (if b then x else y)
+pub gives_if : {A : Type 0} (P : A → Type 0) (b : Bool) (x y : Answer A) → (b ≡ true → GivesSuch P x)
+    → (b ≡ false → GivesSuch P y) → GivesSuch P (if b then x else y)
 gives_if P true x y one other = one refl
 gives_if P false x y one other = other refl
 
@@ -47,7 +49,8 @@ gives_at P x a is so = subst (GivesSuch P) is so
 
 module _ (f : ℕ) where
   -- a class changes but for its file, and loses no member
-  pub keeps_class : (t : Table) (funs : List Head) (c : ℕ) (x : Class) → x.file ≡ (class_of t c).file → ((n : Name) (o : Own) → lookup n (class_of t c).members ≡ Some o → lookup n x.members ≡ Some o)
+  pub keeps_class : (t : Table) (funs : List Head) (c : ℕ) (x : Class) → x.file ≡ (class_of t c).file
+      → ((n : Name) (o : Own) → lookup n (class_of t c).members ≡ Some o → lookup n x.members ≡ Some o)
       → Keeps f t (record t { classes = slice_set t.classes c x; funs = funs })
   keeps_class t funs c x home members = record {
     many_classes = length-set t.classes c x;
@@ -63,7 +66,8 @@ module _ (f : ℕ) where
 
   -- the file changes but for its classes, and loses no variable
   pub keeps_file : (t : Table) (funs : List Head) (statics : List Kind) (x : File) → x.classes ≡ (file_of t f).classes
-      → ((n : Name) (v : ℕ) → lookup n (file_of t f).variables ≡ Some v → lookup n x.variables ≡ Some v) → Within t.statics statics
+      → ((n : Name) (v : ℕ) → lookup n (file_of t f).variables ≡ Some v → lookup n x.variables ≡ Some v)
+      → Within t.statics statics
       → Keeps f t (record t { files = slice_set t.files f x; funs = funs; statics = statics })
   keeps_file t funs statics x classes variables more = record {
     many_classes = refl;
@@ -78,7 +82,8 @@ module _ (f : ℕ) where
   }
 
   -- functions and statics alone change
-  pub keeps_others : (t : Table) (funs : List Head) (statics : List Kind) → Within t.statics statics → Keeps f t (record t { funs = funs; statics = statics })
+  pub keeps_others : (t : Table) (funs : List Head) (statics : List Kind) → Within t.statics statics
+      → Keeps f t (record t { funs = funs; statics = statics })
   keeps_others t funs statics more = record {
     many_classes = refl;
     many_files = refl;
@@ -92,35 +97,49 @@ module _ (f : ℕ) where
   }
 
   pub keeps_member : (t : Table) (c : ℕ) (n : Name) (o : Own) → Keeps f t (with_member t c n o)
-  keeps_member t c n o = keeps_class t t.funs c (and_own (class_of t c) n o) refl (first_stays n o (class_of t c).members)
+  keeps_member t c n o = keeps_class t t.funs c (and_own (class_of t c) n o) refl
+      (first_stays n o (class_of t c).members)
 
-  pub found_member : (t : Table) (c : ℕ) (n : Name) (o : Own) → c < many t → lookup n (class_of t c).members ≡ None → lookup n (class_of (with_member t c n o) c).members ≡ Some o
+  pub found_member : (t : Table) (c : ℕ) (n : Name) (o : Own) → c < many t → lookup n (class_of t c).members ≡ None
+      → lookup n (class_of (with_member t c n o) c).members ≡ Some o
   found_member t c n o lt none =
-      ap (λ y. lookup n (or_no_class y).members) (changed_at t.classes c (and_own (class_of t c) n o) lt) ∙ first_found n o (class_of t c).members none
+      ap (λ y. lookup n (or_no_class y).members) (changed_at t.classes c (and_own (class_of t c) n o) lt)
+      ∙ first_found n o (class_of t c).members none
 
   -- functions
   keeps_dispatch : (t : Table) (c : ℕ) (h : Head) (d : Dispatch) → Keeps f t (with_dispatch t c h d)
-  keeps_dispatch t c h d = keeps_class t (t.funs ++ h ∷ []) c (record (class_of t c) { slots = slots_with (class_of t c) d }) refl (λ m o is. is)
+  keeps_dispatch t c h d = keeps_class t (t.funs ++ h ∷ []) c
+      (record (class_of t c) { slots = slots_with (class_of t c) d }) refl (λ m o is. is)
 
   keeps_method : (t : Table) (c : ℕ) (n : Name) (h : Head) (d : Dispatch) → Keeps f t (with_method t c n h d)
-  keeps_method t c n h d = keeps_then f t (with_dispatch t c h d) (with_method t c n h d) (keeps_dispatch t c h d) (keeps_member (with_dispatch t c h d) c n (own.Fun (length t.funs) d))
+  keeps_method t c n h d = keeps_then f t (with_dispatch t c h d) (with_method t c n h d) (keeps_dispatch t c h d)
+      (keeps_member (with_dispatch t c h d) c n (own.Fun (length t.funs) d))
 
   keeps_fun : (t : Table) (n : Name) (h : Head) → Keeps f t (with_fun t f n h)
-  keeps_fun t n h = keeps_file t (t.funs ++ h ∷ []) t.statics (record (file_of t f) { funs = and_first n (length t.funs) (file_of t f).funs }) refl (λ m v is. is) (within_same t.statics)
+  keeps_fun t n h = keeps_file t (t.funs ++ h ∷ []) t.statics
+      (record (file_of t f) { funs = and_first n (length t.funs) (file_of t f).funs }) refl (λ m v is. is)
+      (within_same t.statics)
 
   -- the function of the statements in a class's braces
   pub keeps_body : (t : Table) (c : ℕ) (ms : Members) → Keeps f t (with_body t c ms)
   keeps_body t c ms = go (has_statement ms)
     where
-      go : (b : Bool) → Keeps f t (if b then record t { funs = t.funs ++ plain_head false ∷ []; classes = slice_set t.classes c (record (class_of t c) { body = Some (length t.funs) }) } else t)
-      go true = keeps_class t (t.funs ++ plain_head false ∷ []) c (record (class_of t c) { body = Some (length t.funs) }) refl (λ m o is. is)
+      go : (b : Bool) → Keeps f t (if b then record t {
+        funs = t.funs ++ plain_head false ∷ [];
+        classes = slice_set t.classes c
+            (record (class_of t c) { body = Some (length t.funs) });
+      } else t)
+      go true = keeps_class t (t.funs ++ plain_head false ∷ []) c
+          (record (class_of t c) { body = Some (length t.funs) }) refl (λ m o is. is)
       go false = keeps_self f t
 
   -- a constructor
   keeps_constructor : (t : Table) (c : ℕ) (h : Head) → Keeps f t (with_constructor t c h)
-  keeps_constructor t c h = keeps_class t (t.funs ++ h ∷ []) c (record (class_of t c) { constructor = Some (length t.funs) }) refl (λ m o is. is)
+  keeps_constructor t c h = keeps_class t (t.funs ++ h ∷ []) c
+      (record (class_of t c) { constructor = Some (length t.funs) }) refl (λ m o is. is)
 
-  constructor_head_keeps : (t : Table) (l c : ℕ) (h : Option Head) → GivesSuch (Keeps f t) (enter_constructor_head t f l c h)
+  constructor_head_keeps : (t : Table) (l c : ℕ) (h : Option Head)
+      → GivesSuch (Keeps f t) (enter_constructor_head t f l c h)
   constructor_head_keeps t l c None = tt
   constructor_head_keeps t l c (Some h) = keeps_constructor t c h
 
@@ -128,21 +147,27 @@ module _ (f : ℕ) where
   refused_keeps t l None = tt
   refused_keeps t l (Some h) = tt
 
-  beside_keeps : (t : Table) (l c : ℕ) (n : Name) (h : Head) (old : Option (Option Head)) → GivesSuch (Keeps f t) (enter_beside t f l c n h old)
+  beside_keeps : (t : Table) (l c : ℕ) (n : Name) (h : Head) (old : Option (Option Head))
+      → GivesSuch (Keeps f t) (enter_beside t f l c n h old)
   beside_keeps t l c n h None = keeps_method t c n h (new_dispatch (class_of t c) h)
   beside_keeps t l c n h (Some old) =
-      gives_if (Keeps f t) (may_override h old) (gives (with_method t c n h (old_dispatch h))) (wrong f l BadClass) (λ e. keeps_method t c n h (old_dispatch h)) (λ e. tt)
+      gives_if (Keeps f t) (may_override h old) (gives (with_method t c n h (old_dispatch h))) (wrong f l BadClass)
+      (λ e. keeps_method t c n h (old_dispatch h)) (λ e. tt)
 
-  method_head_keeps : (t : Table) (l c : ℕ) (n : Name) (h : Option Head) → GivesSuch (Keeps f t) (enter_method_head t f l c n h)
+  method_head_keeps : (t : Table) (l c : ℕ) (n : Name) (h : Option Head)
+      → GivesSuch (Keeps f t) (enter_method_head t f l c n h)
   method_head_keeps t l c n None = tt
   method_head_keeps t l c n (Some h) =
-      gives_if (Keeps f t) (is_event_call t c n) (wrong f l BadClass) (enter_beside t f l c n h (overridden t (ancestors t c) n)) (λ e. tt)
+      gives_if (Keeps f t) (is_event_call t c n) (wrong f l BadClass)
+      (enter_beside t f l c n h (overridden t (ancestors t c) n)) (λ e. tt)
       (λ e. beside_keeps t l c n h (overridden t (ancestors t c) n))
 
   pub method_keeps : (t : Table) (c : ℕ) (m : Fun) → GivesSuch (Keeps f t) (enter_method t f c m)
   method_keeps t c (fun l s result n ps body) =
-      gives_if (Keeps f t) (has_unknown t f m) (wrong f l UnknownName) (if is_member_taken t c n true then wrong f l Duplicate else entered) (λ e. tt)
-      (λ e. gives_if (Keeps f t) (is_member_taken t c n true) (wrong f l Duplicate) entered (λ d. tt) (λ d. method_head_keeps t l c n (head_of t f m)))
+      gives_if (Keeps f t) (has_unknown t f m) (wrong f l UnknownName)
+      (if is_member_taken t c n true then wrong f l Duplicate else entered) (λ e. tt)
+      (λ e. gives_if (Keeps f t) (is_member_taken t c n true) (wrong f l Duplicate) entered (λ d. tt)
+      (λ d. method_head_keeps t l c n (head_of t f m)))
     where
       m : Fun
       m = fun l s result n ps body
@@ -150,20 +175,25 @@ module _ (f : ℕ) where
       entered : Answer Table
       entered = enter_method_head t f l c n (head_of t f m)
   method_keeps t c (constructor l ps body) =
-      gives_if (Keeps f t) (has_unknown t f (constructor l ps body)) (wrong f l UnknownName) (if is_some (class_of t c).constructor then wrong f l Duplicate else entered) (λ e. tt)
-      (λ e. gives_if (Keeps f t) (is_some (class_of t c).constructor) (wrong f l Duplicate) entered (λ d. tt) (λ d. constructor_head_keeps t l c (head_of t f (constructor l ps body))))
+      gives_if (Keeps f t) (has_unknown t f (constructor l ps body)) (wrong f l UnknownName)
+      (if is_some (class_of t c).constructor then wrong f l Duplicate else entered) (λ e. tt)
+      (λ e. gives_if (Keeps f t) (is_some (class_of t c).constructor) (wrong f l Duplicate) entered (λ d. tt)
+      (λ d. constructor_head_keeps t l c (head_of t f (constructor l ps body))))
     where
       entered : Answer Table
       entered = enter_constructor_head t f l c (head_of t f (constructor l ps body))
 
   fun_head_keeps : (t : Table) (l : ℕ) (n : Name) (h : Option Head) → GivesSuch (Keeps f t) (enter_fun_head t f l n h)
   fun_head_keeps t l n None = tt
-  fun_head_keeps t l n (Some h) = gives_if (Keeps f t) h.is_static (wrong f l BadPlace) (gives (with_fun t f n h)) (λ e. tt) (λ e. keeps_fun t n h)
+  fun_head_keeps t l n (Some h) = gives_if (Keeps f t) h.is_static (wrong f l BadPlace) (gives (with_fun t f n h))
+      (λ e. tt) (λ e. keeps_fun t n h)
 
   pub fun_keeps : (t : Table) (m : Fun) → GivesSuch (Keeps f t) (enter_fun t f m)
   fun_keeps t (fun l s result n ps body) =
-      gives_if (Keeps f t) (has_unknown t f m) (wrong f l UnknownName) (if is_name_taken t f n then wrong f l Duplicate else entered) (λ e. tt)
-      (λ e. gives_if (Keeps f t) (is_name_taken t f n) (wrong f l Duplicate) entered (λ d. tt) (λ d. fun_head_keeps t l n (head_of t f m)))
+      gives_if (Keeps f t) (has_unknown t f m) (wrong f l UnknownName)
+      (if is_name_taken t f n then wrong f l Duplicate else entered) (λ e. tt)
+      (λ e. gives_if (Keeps f t) (is_name_taken t f n) (wrong f l Duplicate) entered (λ d. tt)
+      (λ d. fun_head_keeps t l n (head_of t f m)))
     where
       m : Fun
       m = fun l s result n ps body
@@ -171,7 +201,8 @@ module _ (f : ℕ) where
       entered : Answer Table
       entered = enter_fun_head t f l n (head_of t f m)
   fun_keeps t (constructor l ps body) =
-      gives_if (Keeps f t) (has_unknown t f (constructor l ps body)) (wrong f l UnknownName) (refuse_constructor f l (head_of t f (constructor l ps body))) (λ e. tt)
+      gives_if (Keeps f t) (has_unknown t f (constructor l ps body)) (wrong f l UnknownName)
+      (refuse_constructor f l (head_of t f (constructor l ps body))) (λ e. tt)
       (λ e. refused_keeps t l (head_of t f (constructor l ps body)))
 
 -- variables and members ---------------------------------------------------------------------------
@@ -179,12 +210,16 @@ module _ (f : ℕ) where
 module _ (f : ℕ) (t : Table) (n : Name) (k : Kind) where
   pub keeps_variable : Keeps f t (with_variable t f n k)
   keeps_variable =
-      keeps_file f t t.funs (t.statics ++ k ∷ []) (record (file_of t f) { variables = and_first n (length t.statics) (file_of t f).variables }) refl
+      keeps_file f t t.funs (t.statics ++ k ∷ [])
+      (record (file_of t f) { variables = and_first n (length t.statics) (file_of t f).variables }) refl
       (first_stays n (length t.statics) (file_of t f).variables) (k ∷ [], refl)
 
-  pub found_variable : f < length t.files → lookup n (file_of t f).variables ≡ None → lookup n (file_of (with_variable t f n k) f).variables ≡ Some (length t.statics)
+  pub found_variable : f < length t.files → lookup n (file_of t f).variables ≡ None
+      → lookup n (file_of (with_variable t f n k) f).variables ≡ Some (length t.statics)
   found_variable lt none =
-      ap (λ o. lookup n (or_no_file o).variables) (changed_at t.files f (record (file_of t f) { variables = and_first n (length t.statics) (file_of t f).variables }) lt)
+      ap (λ o. lookup n (or_no_file o).variables)
+      (changed_at t.files f (record (file_of t f)
+      { variables = and_first n (length t.statics) (file_of t f).variables }) lt)
       ∙ first_found n (length t.statics) (file_of t f).variables none
 
   module _ (c : ℕ) where
@@ -195,21 +230,28 @@ module _ (f : ℕ) (t : Table) (n : Name) (k : Kind) where
     more_fields = with_class t c (record (class_of t c) { fields = (class_of t c).fields ++ k ∷ [] })
 
     pub keeps_static : Keeps f t (with_static t c n k)
-    keeps_static = keeps_then f t more_statics (with_static t c n k) (keeps_others f t t.funs (t.statics ++ k ∷ []) (k ∷ [], refl)) (keeps_member f more_statics c n (own.Static (next_static t k)))
+    keeps_static = keeps_then f t more_statics (with_static t c n k)
+        (keeps_others f t t.funs (t.statics ++ k ∷ []) (k ∷ [], refl))
+        (keeps_member f more_statics c n (own.Static (next_static t k)))
 
     pub keeps_field : Keeps f t (with_field t c n k)
     keeps_field =
-        keeps_then f t more_fields (with_field t c n k) (keeps_class f t t.funs c (record (class_of t c) { fields = (class_of t c).fields ++ k ∷ [] }) refl (λ m o is. is))
+        keeps_then f t more_fields (with_field t c n k)
+        (keeps_class f t t.funs c (record (class_of t c) { fields = (class_of t c).fields ++ k ∷ [] }) refl
+        (λ m o is. is))
         (keeps_member f more_fields c n (own.Field (length (class_of t c).fields) k))
 
     module _ (lt : c < many t) (none : lookup n (class_of t c).members ≡ None) where
       pub found_static : lookup n (class_of (with_static t c n k) c).members ≡ Some (own.Static (next_static t k))
       found_static = found_member f more_statics c n (own.Static (next_static t k)) lt none
 
-      pub found_field : lookup n (class_of (with_field t c n k) c).members ≡ Some (own.Field (length (class_of t c).fields) k)
+      pub found_field : lookup n (class_of (with_field t c n k) c).members
+          ≡ Some (own.Field (length (class_of t c).fields) k)
       found_field =
-          found_member f more_fields c n (own.Field (length (class_of t c).fields) k) (rw (length-set t.classes c (record (class_of t c) { fields = (class_of t c).fields ++ k ∷ [] })) lt)
-          (ap (λ y. lookup n (or_no_class y).members) (changed_at t.classes c (record (class_of t c) { fields = (class_of t c).fields ++ k ∷ [] }) lt) ∙ none)
+          found_member f more_fields c n (own.Field (length (class_of t c).fields) k)
+          (rw (length-set t.classes c (record (class_of t c) { fields = (class_of t c).fields ++ k ∷ [] })) lt)
+          (ap (λ y. lookup n (or_no_class y).members)
+          (changed_at t.classes c (record (class_of t c) { fields = (class_of t c).fields ++ k ∷ [] }) lt) ∙ none)
 
 -- names that are free -----------------------------------------------------------------------------
 
@@ -229,12 +271,14 @@ module _ (t : Table) (n : Name) where
   pub no_variable : (f : ℕ) → is_name_taken t f n ≡ false → lookup n (file_of t f).variables ≡ None
   no_variable f free =
       not_any (lookup n (file_of t f).variables)
-      (neither (is_some (lookup n (file_of t f).classes) || is_some (lookup n (file_of t f).funs)) (is_some (lookup n (file_of t f).variables)) free).1
+      (neither (is_some (lookup n (file_of t f).classes) || is_some (lookup n (file_of t f).funs))
+      (is_some (lookup n (file_of t f).variables)) free).1
 
   pub no_member : (c : ℕ) → is_member_taken t c n false ≡ false → lookup n (class_of t c).members ≡ None
   no_member c free =
       not_other (lookup n (class_of t c).members)
-      (neither here above (neither (here || above) below (neither (here || above || below) (not false && is_event_call t c n) free).0).0).0
+      (neither here above (neither (here || above) below
+      (neither (here || above || below) (not false && is_event_call t c n) free).0).0).0
     where
       here : Bool
       here = has_other t n false c
@@ -255,5 +299,7 @@ unfolding line_by
 line_first t c = line_begins t.parents MAX_ANCESTORS c
 
 -- a class has what it declares
-pub own_found : (t : Table) (c : ℕ) (n : Name) (o : Own) → lookup n (class_of t c).members ≡ Some o → member_named t c n ≡ Some (as_member t (ancestors t c) n o)
-own_found t c n o is = ap (λ l. member_in t l n) (line_first t c) ∙ ap (λ p. own_member t (ancestors t c) n p (member_in t (ancestors t c) n)) is
+pub own_found : (t : Table) (c : ℕ) (n : Name) (o : Own) → lookup n (class_of t c).members ≡ Some o
+    → member_named t c n ≡ Some (as_member t (ancestors t c) n o)
+own_found t c n o is = ap (λ l. member_in t l n) (line_first t c)
+    ∙ ap (λ p. own_member t (ancestors t c) n p (member_in t (ancestors t c) n)) is

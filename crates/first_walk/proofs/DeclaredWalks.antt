@@ -54,9 +54,11 @@ module _ (f : ℕ) where
   step : (t u : Table) → Keeps f t u → Walked f (λ w. Unit {0}) t u
   step t u keeps = record { keeps = keeps; later = λ w k. tt }
 
-  module _ (D : Table → Type 0) (t : Table) (x : Answer Table) (next : Table → Answer Table) (one : GivesSuch (Walked f D t) x) where
+  module _ (D : Table → Type 0) (t : Table) (x : Answer Table) (next : Table → Answer Table)
+      (one : GivesSuch (Walked f D t) x) where
     -- one walk after another
-    both : (E : Table → Type 0) → ((u : Table) → Keeps f t u → GivesSuch (Walked f E u) (next u)) → GivesSuch (Walked f (λ w. D w × E w) t) (and_then x next)
+    both : (E : Table → Type 0) → ((u : Table) → Keeps f t u → GivesSuch (Walked f E u) (next u))
+        → GivesSuch (Walked f (λ w. D w × E w) t) (and_then x next)
     both E other = gives_then (Walked f D t) All x next one goes
       where
         All : Table → Type 0
@@ -66,7 +68,11 @@ module _ (f : ℕ) where
         goes u so = gives_map (Walked f E u) All joined (next u) (other u so.keeps)
           where
             joined : (v : Table) → Walked f E u v → All v
-            joined v more = record { keeps = keeps_then f t u v so.keeps more.keeps; later = λ w k. (so.later w (keeps_then f u v w more.keeps k), more.later w k) }
+            joined v more = record {
+              keeps = keeps_then f t u v so.keeps more.keeps;
+              later =
+                  λ w k. (so.later w (keeps_then f u v w more.keeps k), more.later w k);
+            }
 
     -- and a step after it
     and_step : ((u : Table) → GivesSuch (Keeps f u) (next u)) → GivesSuch (Walked f D t) (and_then x next)
@@ -79,16 +85,22 @@ module _ (f : ℕ) where
 
 -- walks where names can be entered
 module _ (f : ℕ) (o : Option ℕ) where
-  two : (D E : Table → Type 0) (t : Table) (x : Answer Table) (next : Table → Answer Table) → Ready f o t → GivesSuch (Walked f D t) x
-      → ((u : Table) → Ready f o u → GivesSuch (Walked f E u) (next u)) → GivesSuch (Walked f (λ w. D w × E w) t) (and_then x next)
+  two : (D E : Table → Type 0) (t : Table) (x : Answer Table) (next : Table → Answer Table) → Ready f o t
+      → GivesSuch (Walked f D t) x
+      → ((u : Table) → Ready f o u → GivesSuch (Walked f E u) (next u))
+      → GivesSuch (Walked f (λ w. D w × E w) t) (and_then x next)
   two D E t x next is one other = both f D t x next one E (λ u k. other u (ready_kept f o t u k is))
 
-  three : (D E F : Table → Type 0) (t : Table) (x : Answer Table) (next last : Table → Answer Table) → Ready f o t → GivesSuch (Walked f D t) x
-      → ((u : Table) → Ready f o u → GivesSuch (Walked f E u) (next u)) → ((u : Table) → Ready f o u → GivesSuch (Walked f F u) (last u))
+  three : (D E F : Table → Type 0) (t : Table) (x : Answer Table) (next last : Table → Answer Table) → Ready f o t
+      → GivesSuch (Walked f D t) x
+      → ((u : Table) → Ready f o u → GivesSuch (Walked f E u) (next u))
+      → ((u : Table) → Ready f o u → GivesSuch (Walked f F u) (last u))
       → GivesSuch (Walked f (λ w. D w × E w × F w) t) (and_then x (λ u. and_then (next u) last))
   three D E F t x next last is one other third =
-      gives_map (Walked f (λ w. D w × (E w × F w)) t) (Walked f (λ w. D w × E w × F w) t) flat (and_then x (λ u. and_then (next u) last))
-      (two D (λ w. E w × F w) t x (λ u. and_then (next u) last) is one (λ u ready. two E F u (next u) last ready (other u ready) third))
+      gives_map (Walked f (λ w. D w × (E w × F w)) t) (Walked f (λ w. D w × E w × F w) t) flat
+      (and_then x (λ u. and_then (next u) last))
+      (two D (λ w. E w × F w) t x (λ u. and_then (next u) last) is one
+      (λ u ready. two E F u (next u) last ready (other u ready) third))
     where
       flat : (u : Table) → Walked f (λ w. D w × (E w × F w)) t u → Walked f (λ w. D w × E w × F w) t u
       flat u so = record { keeps = so.keeps; later = λ w k. ((so.later w k).0, (so.later w k).1.0, (so.later w k).1.1) }
@@ -100,7 +112,8 @@ module _ (f l : ℕ) (t : Table) (h : DeclHead) (x : Declr) where
   n = declr_name x
 
   -- a file variable is found with its type
-  variable_has : (k : Kind) → Ready f None t → is_name_taken t f n ≡ false → (w : Table) → Keeps f (with_variable t f n k) w → HasName w f None n k
+  variable_has : (k : Kind) → Ready f None t → is_name_taken t f n ≡ false → (w : Table)
+      → Keeps f (with_variable t f n k) w → HasName w f None n k
   variable_has k ready free w more = (
     static_at w at,
     ap (option_map (static_at w)) (more.variables n at (found_variable f t n k ready.file (no_variable t n f free))),
@@ -111,7 +124,8 @@ module _ (f l : ℕ) (t : Table) (h : DeclHead) (x : Declr) where
       at = length t.statics
 
   -- a declaration with `auto`
-  auto_walked : (o : Option ℕ) → Ready f o t → is_taken t f o n ≡ false → Walked f (λ w. IsAuto w f o n) t (with_auto t f o n)
+  auto_walked : (o : Option ℕ) → Ready f o t → is_taken t f o n ≡ false
+      → Walked f (λ w. IsAuto w f o n) t (with_auto t f o n)
   auto_walked None ready free = record { keeps = keeps_variable f t n Void; later = variable_has Void ready free }
   auto_walked (Some c) ready free = record { keeps = keeps_member f t c n own.Auto; later = λ w more. tt }
 
@@ -149,7 +163,12 @@ module _ (f l : ℕ) (t : Table) (h : DeclHead) (x : Declr) where
             later w more = (
               k,
               of_kind (with_field t c n k) w keeps more,
-              (as_member w (ancestors w c) n new, own_found w c n new (more.members c n new (found_field f t n k c ready.owner (no_member t n c free))), refl),
+              (
+                as_member w (ancestors w c) n new,
+                own_found w c n new
+                    (more.members c n new (found_field f t n k c ready.owner (no_member t n c free))),
+                refl,
+              ),
             )
 
         static : Walked f (IsIt (Some c)) t (with_static t c n k)
@@ -165,40 +184,57 @@ module _ (f l : ℕ) (t : Table) (h : DeclHead) (x : Declr) where
             later w more = (
               k,
               of_kind (with_static t c n k) w keeps more,
-              (as_member w (ancestors w c) n new, own_found w c n new (more.members c n new (found_static f t n k c ready.owner (no_member t n c free))), refl),
+              (
+                as_member w (ancestors w c) n new,
+                own_found w c n new
+                    (more.members c n new (found_static f t n k c ready.owner (no_member t n c free))),
+                refl,
+              ),
             )
 
-    one_of_kind : (o : Option ℕ) → Ready f o t → is_taken t f o n ≡ false → (k : Option Kind) → kind_now t ≡ k → GivesSuch (Walked f (IsIt o) t) (enter_of_kind t f l o h n k)
+    one_of_kind : (o : Option ℕ) → Ready f o t → is_taken t f o n ≡ false → (k : Option Kind) → kind_now t ≡ k
+        → GivesSuch (Walked f (IsIt o) t) (enter_of_kind t f l o h n k)
     one_of_kind o ready free None is = tt
-    one_of_kind None ready free (Some k) is = gives_if (Walked f (IsIt None) t) h.is_static (wrong f l BadPlace) (gives (with_variable t f n k)) (λ e. tt) (λ e. variable k is ready free)
+    one_of_kind None ready free (Some k) is = gives_if (Walked f (IsIt None) t) h.is_static (wrong f l BadPlace)
+        (gives (with_variable t f n k)) (λ e. tt) (λ e. variable k is ready free)
     one_of_kind (Some c) ready free (Some k) is =
-        gives_if (Walked f (IsIt (Some c)) t) (not h.is_static) (gives (with_field t c n k)) (if may_be_static h k then gives (with_static t c n k) else wrong f l BadPlace)
+        gives_if (Walked f (IsIt (Some c)) t) (not h.is_static) (gives (with_field t c n k))
+        (if may_be_static h k then gives (with_static t c n k) else wrong f l BadPlace)
         (λ e. field k is c ready free)
-        (λ e. gives_if (Walked f (IsIt (Some c)) t) (may_be_static h k) (gives (with_static t c n k)) (wrong f l BadPlace) (λ d. static k is c ready free) (λ d. tt))
+        (λ e. gives_if (Walked f (IsIt (Some c)) t) (may_be_static h k) (gives (with_static t c n k))
+        (wrong f l BadPlace) (λ d. static k is c ready free) (λ d. tt))
 
-    one_written : (o : Option ℕ) → Ready f o t → is_taken t f o n ≡ false → GivesSuch (Walked f (IsIt o) t) (enter_written t f l o h x (kind_now t))
+    one_written : (o : Option ℕ) → Ready f o t → is_taken t f o n ≡ false
+        → GivesSuch (Walked f (IsIt o) t) (enter_written t f l o h x (kind_now t))
     one_written o ready free =
-        gives_if (Walked f (IsIt o) t) (is_misplaced h x (kind_now t)) (wrong f l BadPlace) (enter_of_kind t f l o h n (kind_now t)) (λ e. tt)
+        gives_if (Walked f (IsIt o) t) (is_misplaced h x (kind_now t)) (wrong f l BadPlace)
+        (enter_of_kind t f l o h n (kind_now t)) (λ e. tt)
         (λ e. one_of_kind o ready free (kind_now t) refl)
 
-  one_based : (b : Option Base) (o : Option ℕ) → Ready f o t → GivesSuch (Walked f (λ w. IsDeclaredAs w f o h b x) t) (enter_based t f l o h b x)
+  one_based : (b : Option Base) (o : Option ℕ) → Ready f o t
+      → GivesSuch (Walked f (λ w. IsDeclaredAs w f o h b x) t) (enter_based t f l o h b x)
   one_based None o ready =
-      gives_if (Walked f (λ w. IsAuto w f o n) t) (is_taken t f o n) (wrong f l Duplicate) (gives (with_auto t f o n)) (λ d. tt) (λ free. auto_walked o ready free)
+      gives_if (Walked f (λ w. IsAuto w f o n) t) (is_taken t f o n) (wrong f l Duplicate) (gives (with_auto t f o n))
+      (λ d. tt) (λ free. auto_walked o ready free)
   one_based (Some b) o ready =
-      gives_if (Walked f (IsIt b o) t) (is_unknown (named_by t f b)) (wrong f l UnknownName) (if is_taken t f o n then wrong f l Duplicate else entered) (λ e. tt)
-      (λ e. gives_if (Walked f (IsIt b o) t) (is_taken t f o n) (wrong f l Duplicate) entered (λ d. tt) (λ free. one_written b o ready free))
+      gives_if (Walked f (IsIt b o) t) (is_unknown (named_by t f b)) (wrong f l UnknownName)
+      (if is_taken t f o n then wrong f l Duplicate else entered) (λ e. tt)
+      (λ e. gives_if (Walked f (IsIt b o) t) (is_taken t f o n) (wrong f l Duplicate) entered (λ d. tt)
+      (λ free. one_written b o ready free))
     where
       entered : Answer Table
       entered = enter_written t f l o h x (kind_now b t)
 
-  pub one_declared : (o : Option ℕ) → Ready f o t → GivesSuch (Walked f (λ w. IsDeclared w f o h x) t) (enter_declared t f l o h x)
+  pub one_declared : (o : Option ℕ) → Ready f o t
+      → GivesSuch (Walked f (λ w. IsDeclared w f o h x) t) (enter_declared t f l o h x)
   one_declared o ready = one_based h.base o ready
 
 -- texts -------------------------------------------------------------------------------------------
 
 module _ (f : ℕ) (o : Option ℕ) where
   mutual
-    pub expr_walked : (t : Table) (e : Expr) → Ready f o t → GivesSuch (Walked f (λ w. Declared w f o e) t) (enter_expr f o t e)
+    pub expr_walked : (t : Table) (e : Expr) → Ready f o t
+        → GivesSuch (Walked f (λ w. Declared w f o e) t) (enter_expr f o t e)
     expr_walked t (tree.int l v) is = nothing f t
     expr_walked t (tree.float l v) is = nothing f t
     expr_walked t (tree.text l v) is = nothing f t
@@ -208,55 +244,72 @@ module _ (f : ℕ) (o : Option ℕ) where
     expr_walked t (tree.paren l e) is = expr_walked t e is
     expr_walked t (tree.array l es) is = exprs_walked t es is
     expr_walked t (tree.call l e es) is =
-        two f o (λ w. Declared w f o e) (λ w. AllDeclared w f o es) t (enter_expr f o t e) (λ u. enter_exprs f o u es) is (expr_walked t e is) (λ u. exprs_walked u es)
+        two f o (λ w. Declared w f o e) (λ w. AllDeclared w f o es) t (enter_expr f o t e) (λ u. enter_exprs f o u es)
+        is (expr_walked t e is) (λ u. exprs_walked u es)
     expr_walked t (tree.index l e i) is =
-        two f o (λ w. Declared w f o e) (λ w. Declared w f o i) t (enter_expr f o t e) (λ u. enter_expr f o u i) is (expr_walked t e is) (λ u. expr_walked u i)
+        two f o (λ w. Declared w f o e) (λ w. Declared w f o i) t (enter_expr f o t e) (λ u. enter_expr f o u i) is
+        (expr_walked t e is) (λ u. expr_walked u i)
     expr_walked t (tree.member l e n) is = expr_walked t e is
     expr_walked t (tree.postfix l e p) is = expr_walked t e is
     expr_walked t (tree.dur l e d) is =
-        two f o (λ w. Declared w f o e) (λ w. Declared w f o d) t (enter_expr f o t e) (λ u. enter_expr f o u d) is (expr_walked t e is) (λ u. expr_walked u d)
+        two f o (λ w. Declared w f o e) (λ w. Declared w f o d) t (enter_expr f o t e) (λ u. enter_expr f o u d) is
+        (expr_walked t e is) (λ u. expr_walked u d)
     expr_walked t (tree.prefix l p e) is = expr_walked t e is
     expr_walked t (tree.new l b es) is = exprs_walked t es is
     expr_walked t (tree.new_with l b es) is = exprs_walked t es is
     expr_walked t (tree.spork l e) is = expr_walked t e is
     expr_walked t (tree.cast l e k) is = expr_walked t e is
     expr_walked t (tree.binary l a p b) is =
-        two f o (λ w. Declared w f o a) (λ w. Declared w f o b) t (enter_expr f o t a) (λ u. enter_expr f o u b) is (expr_walked t a is) (λ u. expr_walked u b)
+        two f o (λ w. Declared w f o a) (λ w. Declared w f o b) t (enter_expr f o t a) (λ u. enter_expr f o u b) is
+        (expr_walked t a is) (λ u. expr_walked u b)
     expr_walked t (tree.choice l c a b) is =
-        three f o (λ w. Declared w f o c) (λ w. Declared w f o a) (λ w. Declared w f o b) t (enter_expr f o t c) (λ u. enter_expr f o u a) (λ u. enter_expr f o u b) is
+        three f o (λ w. Declared w f o c) (λ w. Declared w f o a) (λ w. Declared w f o b) t (enter_expr f o t c)
+        (λ u. enter_expr f o u a) (λ u. enter_expr f o u b) is
         (expr_walked t c is) (λ u. expr_walked u a) (λ u. expr_walked u b)
     expr_walked t (tree.declare l h x) is =
-        two f o (λ w. BehindDeclared w f o x) (λ w. IsDeclared w f o h x) t (enter_behind f o t x) (λ u. enter_declared u f l o h x) is
+        two f o (λ w. BehindDeclared w f o x) (λ w. IsDeclared w f o h x) t (enter_behind f o t x)
+        (λ u. enter_declared u f l o h x) is
         (behind_walked t x is) (λ u. one_declared f l u h x o)
     expr_walked t (tree.chuck l a p b) is =
-        two f o (λ w. Declared w f o a) (λ w. Declared w f o b) t (enter_expr f o t a) (λ u. enter_expr f o u b) is (expr_walked t a is) (λ u. expr_walked u b)
+        two f o (λ w. Declared w f o a) (λ w. Declared w f o b) t (enter_expr f o t a) (λ u. enter_expr f o u b) is
+        (expr_walked t a is) (λ u. expr_walked u b)
 
-    pub exprs_walked : (t : Table) (es : Exprs) → Ready f o t → GivesSuch (Walked f (λ w. AllDeclared w f o es) t) (enter_exprs f o t es)
+    pub exprs_walked : (t : Table) (es : Exprs) → Ready f o t
+        → GivesSuch (Walked f (λ w. AllDeclared w f o es) t) (enter_exprs f o t es)
     exprs_walked t no_exprs is = nothing f t
     exprs_walked t (and_expr es e) is =
-        two f o (λ w. AllDeclared w f o es) (λ w. Declared w f o e) t (enter_exprs f o t es) (λ u. enter_expr f o u e) is (exprs_walked t es is) (λ u. expr_walked u e)
+        two f o (λ w. AllDeclared w f o es) (λ w. Declared w f o e) t (enter_exprs f o t es) (λ u. enter_expr f o u e)
+        is (exprs_walked t es is) (λ u. expr_walked u e)
 
-    pub behind_walked : (t : Table) (x : Declr) → Ready f o t → GivesSuch (Walked f (λ w. BehindDeclared w f o x) t) (enter_behind f o t x)
+    pub behind_walked : (t : Table) (x : Declr) → Ready f o t
+        → GivesSuch (Walked f (λ w. BehindDeclared w f o x) t) (enter_behind f o t x)
     behind_walked t (declr n bs) is = brackets_walked t bs is
     behind_walked t (declr_with n es) is = exprs_walked t es is
 
-    pub brackets_walked : (t : Table) (bs : Brackets) → Ready f o t → GivesSuch (Walked f (λ w. SizesDeclared w f o bs) t) (enter_brackets f o t bs)
+    pub brackets_walked : (t : Table) (bs : Brackets) → Ready f o t
+        → GivesSuch (Walked f (λ w. SizesDeclared w f o bs) t) (enter_brackets f o t bs)
     brackets_walked t no_brackets is = nothing f t
     brackets_walked t (and_empty bs) is = brackets_walked t bs is
     brackets_walked t (and_size bs e) is =
-        two f o (λ w. SizesDeclared w f o bs) (λ w. Declared w f o e) t (enter_brackets f o t bs) (λ u. enter_expr f o u e) is (brackets_walked t bs is) (λ u. expr_walked u e)
+        two f o (λ w. SizesDeclared w f o bs) (λ w. Declared w f o e) t (enter_brackets f o t bs)
+        (λ u. enter_expr f o u e) is (brackets_walked t bs is) (λ u. expr_walked u e)
 
-  pub declrs_walked : (l : ℕ) (h : DeclHead) (t : Table) (ds : Declrs) → Ready f o t → GivesSuch (Walked f (λ w. ListDeclared w f o h ds) t) (enter_declrs f l o h t ds)
+  pub declrs_walked : (l : ℕ) (h : DeclHead) (t : Table) (ds : Declrs) → Ready f o t
+      → GivesSuch (Walked f (λ w. ListDeclared w f o h ds) t) (enter_declrs f l o h t ds)
   declrs_walked l h t no_declrs is = nothing f t
   declrs_walked l h t (and_declr ds x) is =
-      three f o (λ w. ListDeclared w f o h ds) (λ w. BehindDeclared w f o x) (λ w. IsDeclared w f o h x) t (enter_declrs f l o h t ds) (λ u. enter_behind f o u x)
-      (λ v. enter_declared v f l o h x) is (declrs_walked l h t ds is) (λ u. behind_walked u x) (λ u. one_declared f l u h x o)
+      three f o (λ w. ListDeclared w f o h ds) (λ w. BehindDeclared w f o x) (λ w. IsDeclared w f o h x) t
+      (enter_declrs f l o h t ds) (λ u. enter_behind f o u x)
+      (λ v. enter_declared v f l o h x) is (declrs_walked l h t ds is) (λ u. behind_walked u x)
+      (λ u. one_declared f l u h x o)
 
-  option_walked : (t : Table) (e : Option Expr) → Ready f o t → GivesSuch (Walked f (λ w. OptionDeclared w f o e) t) (enter_option f o t e)
+  option_walked : (t : Table) (e : Option Expr) → Ready f o t
+      → GivesSuch (Walked f (λ w. OptionDeclared w f o e) t) (enter_option f o t e)
   option_walked t None is = nothing f t
   option_walked t (Some e) is = expr_walked t e is
 
-  pub stmt_walked : (t : Table) (s : Stmt) → Ready f o t → GivesSuch (Walked f (λ w. StmtDeclared w f o s) t) (enter_stmt f o t s)
+  pub stmt_walked : (t : Table) (s : Stmt) → Ready f o t
+      → GivesSuch (Walked f (λ w. StmtDeclared w f o s) t) (enter_stmt f o t s)
   stmt_walked t (tree.simple l e) is = expr_walked t e is
   stmt_walked t (tree.declares l h ds) is = declrs_walked l h t ds is
   stmt_walked t (tree.print l es) is = exprs_walked t es is
@@ -272,12 +325,15 @@ module _ (f : ℕ) (o : Option ℕ) where
 
 -- what a class declares
 module _ (f c : ℕ) where
-  pub members_walked : (t : Table) (ms : Members) → Ready f (Some c) t → GivesSuch (Walked f (λ w. MembersDeclared w f c ms) t) (enter_members f c t ms)
+  pub members_walked : (t : Table) (ms : Members) → Ready f (Some c) t
+      → GivesSuch (Walked f (λ w. MembersDeclared w f c ms) t) (enter_members f c t ms)
   members_walked t no_members is = nothing f t
   members_walked t (and_member ms (fun_member g)) is =
-      and_step f (λ w. MembersDeclared w f c ms) t (enter_members f c t ms) (λ u. enter_method u f c g) (members_walked t ms is) (λ u. method_keeps f u c g)
+      and_step f (λ w. MembersDeclared w f c ms) t (enter_members f c t ms) (λ u. enter_method u f c g)
+      (members_walked t ms is) (λ u. method_keeps f u c g)
   members_walked t (and_member ms (stmt_member s)) is =
-      two f (Some c) (λ w. MembersDeclared w f c ms) (λ w. StmtDeclared w f (Some c) s) t (enter_members f c t ms) (λ u. enter_stmt f (Some c) u s) is
+      two f (Some c) (λ w. MembersDeclared w f c ms) (λ w. StmtDeclared w f (Some c) s) t (enter_members f c t ms)
+      (λ u. enter_stmt f (Some c) u s) is
       (members_walked t ms is) (λ u. stmt_walked f (Some c) u s)
 
 module _ (f : ℕ) where
@@ -295,9 +351,12 @@ module _ (f : ℕ) where
     inner = λ n c at. rw keeps.many_classes (is.inner n c (ap (lookup n) (sym keeps.classes) ∙ at));
   }
 
-  item_walked : (t : Table) (x : tree.Item) → FileReady f t → GivesSuch (Walked f (λ w. ItemDeclared w f x) t) (enter_item f t x)
+  item_walked : (t : Table) (x : tree.Item) → FileReady f t
+      → GivesSuch (Walked f (λ w. ItemDeclared w f x) t) (enter_item f t x)
   item_walked t (class_item (tree.class l is_public n parent ms)) is =
-      gives_map (Walked f (λ w. MembersDeclared w f c ms) braced) (Walked f (λ w. MembersDeclared w f (own_class w f n) ms) t) from (enter_members f c braced ms) (members_walked f c braced ms ready)
+      gives_map (Walked f (λ w. MembersDeclared w f c ms) braced)
+      (Walked f (λ w. MembersDeclared w f (own_class w f n) ms) t) from (enter_members f c braced ms)
+      (members_walked f c braced ms ready)
     where
       c : ℕ
       c = own_class t f n
@@ -311,18 +370,26 @@ module _ (f : ℕ) where
       ready : Ready f (Some c) braced
       ready = record { file = rw keeps.many_files is.file; owner = rw keeps.many_classes (own_in t n is) }
 
-      from : (u : Table) → Walked f (λ w. MembersDeclared w f c ms) braced u → Walked f (λ w. MembersDeclared w f (own_class w f n) ms) t u
-      from u so = record { keeps = all; later = λ w k. subst (λ d. MembersDeclared w f d ms) (sym (same_own_class f t w (keeps_then f t u w all k) n)) (so.later w k) }
+      from : (u : Table) → Walked f (λ w. MembersDeclared w f c ms) braced u
+          → Walked f (λ w. MembersDeclared w f (own_class w f n) ms) t u
+      from u so = record {
+        keeps = all;
+        later = λ w k. subst (λ d. MembersDeclared w f d ms)
+            (sym (same_own_class f t w (keeps_then f t u w all k) n)) (so.later w k);
+      }
         where
           all : Keeps f t u
           all = keeps_then f t braced u keeps so.keeps
-  item_walked t (fun_item g) is = gives_map (Keeps f t) (Walked f (λ w. Unit {0}) t) (step f t) (enter_fun t f g) (fun_keeps f t g)
+  item_walked t (fun_item g) is = gives_map (Keeps f t) (Walked f (λ w. Unit {0}) t) (step f t) (enter_fun t f g)
+      (fun_keeps f t g)
   item_walked t (stmt_item s) is = stmt_walked f None t s (record { file = is.file; owner = tt })
 
-  pub items_walked : (t : Table) (xs : tree.File) → FileReady f t → GivesSuch (Walked f (λ w. FileDeclared w f xs) t) (enter_items f t xs)
+  pub items_walked : (t : Table) (xs : tree.File) → FileReady f t
+      → GivesSuch (Walked f (λ w. FileDeclared w f xs) t) (enter_items f t xs)
   items_walked t no_items is = nothing f t
   items_walked t (and_item xs x) is =
-      both f (λ w. FileDeclared w f xs) t (enter_items f t xs) (λ u. enter_item f u x) (items_walked t xs is) (λ w. ItemDeclared w f x) (λ u k. item_walked u x (file_ready_kept t u k is))
+      both f (λ w. FileDeclared w f xs) t (enter_items f t xs) (λ u. enter_item f u x) (items_walked t xs is)
+      (λ w. ItemDeclared w f x) (λ u k. item_walked u x (file_ready_kept t u k is))
 
   -- an item keeps what was there
   pub item_keeps : (t u : Table) (x : tree.Item) → FileReady f t → enter_item f t x ≡ gives u → Keeps f t u

@@ -22,12 +22,18 @@ pub record Grows (t u : Table) : Type 0 where
   pub named : (g : ℕ) → Within (file_of t g).funs (file_of u g).funs
 
 pub grows_self : (t : Table) → Grows t t
-grows_self t = record { funs = within_same t.funs; members = λ c. within_same (class_of t c).members; named = λ g. within_same (file_of t g).funs }
+grows_self t = record {
+  funs = within_same t.funs;
+  members = λ c. within_same (class_of t c).members;
+  named =
+      λ g. within_same (file_of t g).funs;
+}
 
 pub grows_then : (t u v : Table) → Grows t u → Grows u v → Grows t v
 grows_then t u v x y = record {
   funs = within_then t.funs u.funs v.funs x.funs y.funs;
-  members = λ c. within_then (class_of t c).members (class_of u c).members (class_of v c).members (x.members c) (y.members c);
+  members = λ c. within_then (class_of t c).members (class_of u c).members (class_of v c).members (x.members c)
+      (y.members c);
   named = λ g. within_then (file_of t g).funs (file_of u g).funs (file_of v g).funs (x.named g) (y.named g);
 }
 
@@ -55,20 +61,28 @@ module _ (b : Table) (low f : ℕ) (first : List (Option ℕ)) (ready : Ready b 
   pub counts : (es : List Entry) (t : Table) → SoFar b low f first es t → length (first ++ owners_of es) ≡ length t.funs
   counts es t so =
       length-append first (owners_of es) ∙ ap (λ n. length first + n) (length-map es (λ (e : Entry). e.1))
-      ∙ ap (λ n. n + length es) ready.counted ∙ sym (ap length so.funs ∙ length-append b.funs (heads_of es) ∙ ap (λ n. length b.funs + n) (length-map es (λ (e : Entry). e.0)))
+      ∙ ap (λ n. n + length es) ready.counted ∙ sym
+      (ap length so.funs ∙ length-append b.funs (heads_of es)
+      ∙ ap (λ n. length b.funs + n) (length-map es (λ (e : Entry). e.0)))
 
   pub owners_more : (es more : List Entry) → first ++ owners_of (es ++ more) ≡ (first ++ owners_of es) ++ owners_of more
-  owners_more es more = ap (λ l. first ++ l) (map-append (λ (e : Entry). e.1) es more) ∙ sym (append_assoc first (owners_of es) (owners_of more))
+  owners_more es more = ap (λ l. first ++ l) (map-append (λ (e : Entry). e.1) es more)
+      ∙ sym (append_assoc first (owners_of es) (owners_of more))
 
   pub owners_within : (es more : List Entry) → Within (first ++ owners_of es) (first ++ owners_of (es ++ more))
   owners_within es more = (owners_of more, owners_more es more)
 
-  pub funs_more : (es more : List Entry) (t u : Table) → SoFar b low f first es t → u.funs ≡ t.funs ++ heads_of more → u.funs ≡ b.funs ++ heads_of (es ++ more)
-  funs_more es more t u so is = is ∙ ap (λ l. l ++ heads_of more) so.funs ∙ append_assoc b.funs (heads_of es) (heads_of more) ∙ ap (λ l. b.funs ++ l) (sym (map-append (λ (e : Entry). e.0) es more))
+  pub funs_more : (es more : List Entry) (t u : Table) → SoFar b low f first es t → u.funs ≡ t.funs ++ heads_of more
+      → u.funs ≡ b.funs ++ heads_of (es ++ more)
+  funs_more es more t u so is = is ∙ ap (λ l. l ++ heads_of more) so.funs
+      ∙ append_assoc b.funs (heads_of es) (heads_of more)
+      ∙ ap (λ l. b.funs ++ l) (sym (map-append (λ (e : Entry). e.0) es more))
 
   -- the next function's owner
-  pub owner_last : (es : List Entry) (t : Table) (h : Head) (o : Option ℕ) → SoFar b low f first es t → slice_get (first ++ owners_of (es ++ (h, o) ∷ [])) (length t.funs) ≡ Some o
-  owner_last es t h o so = ap (λ l. slice_get l (length t.funs)) (owners_more es ((h, o) ∷ [])) ∙ get_last (first ++ owners_of es) o (length t.funs) (sym (counts es t so))
+  pub owner_last : (es : List Entry) (t : Table) (h : Head) (o : Option ℕ) → SoFar b low f first es t
+      → slice_get (first ++ owners_of (es ++ (h, o) ∷ [])) (length t.funs) ≡ Some o
+  owner_last es t h o so = ap (λ l. slice_get l (length t.funs)) (owners_more es ((h, o) ∷ []))
+      ∙ get_last (first ++ owners_of es) o (length t.funs) (sym (counts es t so))
 
   -- a class is ready for one member more
   pub record Prepared (t v : Table) (es more : List Entry) (c : ℕ) (n : Name) (o : Own) (k : Class) : Type 0 where
@@ -91,7 +105,8 @@ module _ (b : Table) (low f : ℕ) (first : List (Option ℕ)) (ready : Ready b 
     pub one : OwnSoFar b v.funs v.statics (first ++ owners_of (es ++ more)) c k.fields (n, o)
     pub slots : numbers (class_of t c).slots ++ new_slots ((n, o) ∷ []) ≡ numbers k.slots
 
-  module _ (t v : Table) (es more : List Entry) (c : ℕ) (n : Name) (o : Own) (k : Class) (so : SoFar b low f first es t) (p : Prepared t v es more c n o k) where
+  module _ (t v : Table) (es more : List Entry) (c : ℕ) (n : Name) (o : Own) (k : Class) (so : SoFar b low f first es t)
+      (p : Prepared t v es more c n o k) where
     abbrev result : Table
     result = with_member v c n o
 
@@ -102,32 +117,41 @@ module _ (b : Table) (low f : ℕ) (first : List (Option ℕ)) (ready : Ready b 
     result_names = same_then t v result p.names (class_names v c (and_own (class_of v c) n o) refl refl)
 
     now_members : (and_own (class_of v c) n o).members ≡ (class_of t c).members ++ (n, o) ∷ []
-    now_members = ap (λ (x : Class). and_first n o x.members) p.is ∙ ap (and_first n o) p.members ∙ and_new n o (class_of t c).members p.new
+    now_members = ap (λ (x : Class). and_first n o x.members) p.is ∙ ap (and_first n o) p.members
+        ∙ and_new n o (class_of t c).members p.new
 
-    result_class : (d : ℕ) → d < many b → ClassSoFar b v.funs v.statics (first ++ owners_of (es ++ more)) d (class_of result d)
-    result_class d lt = set_cases (λ e x. e < many b → ClassSoFar b v.funs v.statics (first ++ owners_of (es ++ more)) e (or_no_class x)) v.classes c d (and_own (class_of v c) n o) in_v here there lt
+    result_class : (d : ℕ) → d < many b → ClassSoFar b v.funs v.statics (first ++ owners_of (es ++ more)) d
+        (class_of result d)
+    result_class d lt = set_cases (λ e x. e < many b
+        → ClassSoFar b v.funs v.statics (first ++ owners_of (es ++ more)) e (or_no_class x)) v.classes c d
+        (and_own (class_of v c) n o) in_v here there lt
       where
-        here : c < many b → ClassSoFar b v.funs v.statics (first ++ owners_of (es ++ more)) c (and_own (class_of v c) n o)
+        here : c < many b → ClassSoFar b v.funs v.statics (first ++ owners_of (es ++ more)) c
+            (and_own (class_of v c) n o)
         here at =
-            class_more b t.funs v.funs t.statics v.statics (first ++ owners_of es) (first ++ owners_of (es ++ more)) (heads_of more, p.funs) p.grown (owners_within es more) c
+            class_more b t.funs v.funs t.statics v.statics (first ++ owners_of es) (first ++ owners_of (es ++ more))
+            (heads_of more, p.funs) p.grown (owners_within es more) c
             (class_of t c) (and_own (class_of v c) n o) n o
             (subst (λ (x : Class). Within (class_of t c).fields x.fields) (sym p.is) p.more_fields)
             (subst (λ (x : Class). Each (ValueIn (many b)) x.fields) (sym p.is) p.fields)
             now_members p.new
-            (subst (λ (x : Class). OwnSoFar b v.funs v.statics (first ++ owners_of (es ++ more)) c x.fields (n, o)) (sym p.is) p.one)
+            (subst (λ (x : Class). OwnSoFar b v.funs v.statics (first ++ owners_of (es ++ more)) c x.fields (n, o))
+            (sym p.is) p.one)
             (p.slots ∙ sym (ap (λ (x : Class). numbers x.slots) p.is))
             (ap (λ (x : Class). x.body) p.is ∙ p.body)
             (ap (λ (x : Class). x.constructor) p.is ∙ p.constructor_same)
             (so.classes c at)
 
-        there : (d ≡ c → ⊥) → d < many b → ClassSoFar b v.funs v.statics (first ++ owners_of (es ++ more)) d (class_of v d)
+        there : (d ≡ c → ⊥) → d < many b → ClassSoFar b v.funs v.statics (first ++ owners_of (es ++ more)) d
+            (class_of v d)
         there other at =
             subst (ClassSoFar b v.funs v.statics (first ++ owners_of (es ++ more)) d) (sym (p.others d other))
             (class_grows b t.funs v.funs t.statics v.statics (first ++ owners_of es) (first ++ owners_of (es ++ more))
             (heads_of more, p.funs) p.grown (owners_within es more) d (class_of t d) (so.classes d at))
 
     other_class : (d : ℕ) → (d ≡ c → ⊥) → class_of result d ≡ class_of t d
-    other_class d other = ap or_no_class (get_set_other v.classes c d (and_own (class_of v c) n o) other) ∙ p.others d other
+    other_class d other = ap or_no_class (get_set_other v.classes c d (and_own (class_of v c) n o) other)
+        ∙ p.others d other
 
     pub member_step : SoFar b low f first (es ++ more) (with_member v c n o)
     member_step = record {
@@ -136,12 +160,14 @@ module _ (b : Table) (low f : ℕ) (first : List (Option ℕ)) (ready : Ready b 
       grown = within_then b.statics t.statics result.statics so.grown p.grown;
       files = subst (Each (IsFileOf result (first ++ owners_of (es ++ more)))) (sym p.files)
           (each_map (IsFileOf t (first ++ owners_of es)) (IsFileOf result (first ++ owners_of (es ++ more)))
-          (λ file is. file_grows t result (first ++ owners_of es) (first ++ owners_of (es ++ more)) file (omega (arith, result_names.many_same)) p.grown (owners_within es more) is)
+          (λ file is. file_grows t result (first ++ owners_of es) (first ++ owners_of (es ++ more)) file
+          (omega (arith, result_names.many_same)) p.grown (owners_within es more) is)
           t.files so.files);
       statics = p.statics;
       heads = p.heads;
       classes = result_class;
-      older = λ d lt. subst (SameClass (class_of b d)) (sym (other_class d (λ e. absurd (omega (arith, lt, e, p.low_le))))) (so.older d lt);
+      older = λ d lt. subst (SameClass (class_of b d))
+          (sym (other_class d (λ e. absurd (omega (arith, lt, e, p.low_le))))) (so.older d lt);
       others = λ g other. ap (λ l. or_no_file (slice_get l g)) p.files ∙ so.others g other;
     }
 
@@ -149,9 +175,12 @@ module _ (b : Table) (low f : ℕ) (first : List (Option ℕ)) (ready : Ready b 
     member_grows = record {
       funs = (heads_of more, p.funs);
       members = λ d.
-          set_cases (λ e x. Within (class_of t e).members (or_no_class x).members) v.classes c d (and_own (class_of v c) n o) in_v ((n, o) ∷ [], now_members)
-          (λ other. subst (λ (x : Class). Within (class_of t d).members x.members) (sym (p.others d other)) (within_same (class_of t d).members));
-      named = λ g. within_is (file_of t g).funs (file_of result g).funs (ap (λ l. (or_no_file (slice_get l g)).funs) p.files);
+          set_cases (λ e x. Within (class_of t e).members (or_no_class x).members) v.classes c d
+          (and_own (class_of v c) n o) in_v ((n, o) ∷ [], now_members)
+          (λ other. subst (λ (x : Class). Within (class_of t d).members x.members) (sym (p.others d other))
+          (within_same (class_of t d).members));
+      named = λ g. within_is (file_of t g).funs (file_of result g).funs
+          (ap (λ l. (or_no_file (slice_get l g)).funs) p.files);
     }
 
     -- the member is found

@@ -8,32 +8,42 @@ use Rattle.type_table.specs.Table.{Table}
 use Rattle.first_walk.specs.FirstWalk.{enter_declared, enter_expr, enter_exprs, enter_behind, enter_brackets, enter_declrs, enter_option, enter_stmt}
 use Rattle.first_walk.proofs.SameNames.{GivesSuch, gives_then}
 
-module _ (f : ℕ) (o : Option ℕ) (P : Table → Type 0) (keep : (t : Table) (l : ℕ) (h : DeclHead) (x : Declr) → P t → GivesSuch P (enter_declared t f l o h x)) where
+module _ (f : ℕ) (o : Option ℕ) (P : Table → Type 0)
+    (keep : (t : Table) (l : ℕ) (h : DeclHead) (x : Declr) → P t → GivesSuch P (enter_declared t f l o h x)) where
   mutual
     pub expr_keeps : (t : Table) (e : Expr) → P t → GivesSuch P (enter_expr f o t e)
     expr_keeps t (tree.paren l e) p = expr_keeps t e p
     expr_keeps t (tree.array l es) p = exprs_keep t es p
-    expr_keeps t (tree.call l e es) p = gives_then P P (enter_expr f o t e) (λ u. enter_exprs f o u es) (expr_keeps t e p) (λ u q. exprs_keep u es q)
-    expr_keeps t (tree.index l e i) p = gives_then P P (enter_expr f o t e) (λ u. enter_expr f o u i) (expr_keeps t e p) (λ u q. expr_keeps u i q)
+    expr_keeps t (tree.call l e es) p = gives_then P P (enter_expr f o t e) (λ u. enter_exprs f o u es)
+        (expr_keeps t e p) (λ u q. exprs_keep u es q)
+    expr_keeps t (tree.index l e i) p = gives_then P P (enter_expr f o t e) (λ u. enter_expr f o u i) (expr_keeps t e p)
+        (λ u q. expr_keeps u i q)
     expr_keeps t (tree.member l e n) p = expr_keeps t e p
     expr_keeps t (tree.postfix l e d) p = expr_keeps t e p
-    expr_keeps t (tree.dur l e d) p = gives_then P P (enter_expr f o t e) (λ u. enter_expr f o u d) (expr_keeps t e p) (λ u q. expr_keeps u d q)
+    expr_keeps t (tree.dur l e d) p = gives_then P P (enter_expr f o t e) (λ u. enter_expr f o u d) (expr_keeps t e p)
+        (λ u q. expr_keeps u d q)
     expr_keeps t (tree.prefix l d e) p = expr_keeps t e p
     expr_keeps t (tree.new l b es) p = exprs_keep t es p
     expr_keeps t (tree.new_with l b es) p = exprs_keep t es p
     expr_keeps t (tree.spork l e) p = expr_keeps t e p
     expr_keeps t (tree.cast l e k) p = expr_keeps t e p
-    expr_keeps t (tree.binary l a d b) p = gives_then P P (enter_expr f o t a) (λ u. enter_expr f o u b) (expr_keeps t a p) (λ u q. expr_keeps u b q)
+    expr_keeps t (tree.binary l a d b) p = gives_then P P (enter_expr f o t a) (λ u. enter_expr f o u b)
+        (expr_keeps t a p) (λ u q. expr_keeps u b q)
     expr_keeps t (tree.choice l c a b) p =
-        gives_then P P (enter_expr f o t c) (λ u. and_then (enter_expr f o u a) (λ v. enter_expr f o v b)) (expr_keeps t c p)
-        (λ u q. gives_then P P (enter_expr f o u a) (λ v. enter_expr f o v b) (expr_keeps u a q) (λ v r. expr_keeps v b r))
-    expr_keeps t (tree.declare l h x) p = gives_then P P (enter_behind f o t x) (λ u. enter_declared u f l o h x) (behind_keeps t x p) (λ u q. keep u l h x q)
-    expr_keeps t (tree.chuck l a d b) p = gives_then P P (enter_expr f o t a) (λ u. enter_expr f o u b) (expr_keeps t a p) (λ u q. expr_keeps u b q)
+        gives_then P P (enter_expr f o t c) (λ u. and_then (enter_expr f o u a) (λ v. enter_expr f o v b))
+        (expr_keeps t c p)
+        (λ u q. gives_then P P (enter_expr f o u a) (λ v. enter_expr f o v b) (expr_keeps u a q)
+        (λ v r. expr_keeps v b r))
+    expr_keeps t (tree.declare l h x) p = gives_then P P (enter_behind f o t x) (λ u. enter_declared u f l o h x)
+        (behind_keeps t x p) (λ u q. keep u l h x q)
+    expr_keeps t (tree.chuck l a d b) p = gives_then P P (enter_expr f o t a) (λ u. enter_expr f o u b)
+        (expr_keeps t a p) (λ u q. expr_keeps u b q)
     expr_keeps t _ p = p
 
     pub exprs_keep : (t : Table) (es : Exprs) → P t → GivesSuch P (enter_exprs f o t es)
     exprs_keep t no_exprs p = p
-    exprs_keep t (and_expr es e) p = gives_then P P (enter_exprs f o t es) (λ u. enter_expr f o u e) (exprs_keep t es p) (λ u q. expr_keeps u e q)
+    exprs_keep t (and_expr es e) p = gives_then P P (enter_exprs f o t es) (λ u. enter_expr f o u e) (exprs_keep t es p)
+        (λ u q. expr_keeps u e q)
 
     pub behind_keeps : (t : Table) (x : Declr) → P t → GivesSuch P (enter_behind f o t x)
     behind_keeps t (declr n bs) p = brackets_keep t bs p
@@ -42,13 +52,16 @@ module _ (f : ℕ) (o : Option ℕ) (P : Table → Type 0) (keep : (t : Table) (
     pub brackets_keep : (t : Table) (bs : Brackets) → P t → GivesSuch P (enter_brackets f o t bs)
     brackets_keep t no_brackets p = p
     brackets_keep t (and_empty bs) p = brackets_keep t bs p
-    brackets_keep t (and_size bs e) p = gives_then P P (enter_brackets f o t bs) (λ u. enter_expr f o u e) (brackets_keep t bs p) (λ u q. expr_keeps u e q)
+    brackets_keep t (and_size bs e) p = gives_then P P (enter_brackets f o t bs) (λ u. enter_expr f o u e)
+        (brackets_keep t bs p) (λ u q. expr_keeps u e q)
 
   declrs_keep : (l : ℕ) (h : DeclHead) (t : Table) (ds : Declrs) → P t → GivesSuch P (enter_declrs f l o h t ds)
   declrs_keep l h t no_declrs p = p
   declrs_keep l h t (and_declr ds x) p =
-      gives_then P P (enter_declrs f l o h t ds) (λ u. and_then (enter_behind f o u x) (λ v. enter_declared v f l o h x)) (declrs_keep l h t ds p)
-      (λ u q. gives_then P P (enter_behind f o u x) (λ v. enter_declared v f l o h x) (behind_keeps u x q) (λ v r. keep v l h x r))
+      gives_then P P (enter_declrs f l o h t ds)
+      (λ u. and_then (enter_behind f o u x) (λ v. enter_declared v f l o h x)) (declrs_keep l h t ds p)
+      (λ u q. gives_then P P (enter_behind f o u x) (λ v. enter_declared v f l o h x) (behind_keeps u x q)
+      (λ v r. keep v l h x r))
 
   option_keeps : (t : Table) (e : Option Expr) → P t → GivesSuch P (enter_option f o t e)
   option_keeps t None p = p

@@ -49,11 +49,14 @@ holds_from P (Some a) f = f a refl
 
 -- what holds of all functions that the texts of these classes have holds of the one that is overridden
 overridden_holds : (P : Option Head → Type 0) (u : Table) (n : Name) (above : List ℕ)
-    → Each (λ c. (h : Option Head) → lookup n (class_of u c).heads ≡ Some h → P h) above → Holds P (overridden u above n)
+    → Each (λ c. (h : Option Head) → lookup n (class_of u c).heads ≡ Some h → P h) above
+    → Holds P (overridden u above n)
 overridden_holds P u n [] all = tt
-overridden_holds P u n (c ∷ above) all = holds_else P (lookup n (class_of u c).heads) (overridden u above n) (holds_from P (lookup n (class_of u c).heads) all.0) (overridden_holds P u n above all.1)
+overridden_holds P u n (c ∷ above) all = holds_else P (lookup n (class_of u c).heads) (overridden u above n)
+    (holds_from P (lookup n (class_of u c).heads) all.0) (overridden_holds P u n above all.1)
 
-module _ (t : Table) (f : ℕ) (before : List (Option ℕ)) (is : IsTable t before) (raw : tree.File) (b : Table) (base : Started t f (before ++ None ∷ []) raw b) (f_is : f ≡ length t.files) (u : Table) where
+module _ (t : Table) (f : ℕ) (before : List (Option ℕ)) (is : IsTable t before) (raw : tree.File) (b : Table)
+    (base : Started t f (before ++ None ∷ []) raw b) (f_is : f ≡ length t.files) (u : Table) where
   abbrev es : List Entry
   es = items_entries b f raw
 
@@ -68,8 +71,15 @@ module _ (t : Table) (f : ℕ) (before : List (Option ℕ)) (is : IsTable t befo
     funs_within = within_then t.funs b.funs u.funs (plain_head true ∷ [], base.funs) (heads_of es, so.funs)
 
     -- each function of a class's text was entered: in an older class
-    old_entered : (c : ℕ) → c < many t → (n : Name) (h : Option Head) → lookup n (class_of t c).heads ≡ Some h → IsEntered u c n h
-    old_entered c lt n h at = (g, d, ap (lookup n) same ∙ before_it.2, before_it.3 ∙ ap (λ o. Some (or_no_head o)) (known ∙ sym (get_within t.funs u.funs g (fun_of t g) funs_within known)))
+    old_entered : (c : ℕ) → c < many t → (n : Name) (h : Option Head) → lookup n (class_of t c).heads ≡ Some h
+        → IsEntered u c n h
+    old_entered c lt n h at = (
+      g,
+      d,
+      ap (lookup n) same ∙ before_it.2,
+      before_it.3
+          ∙ ap (λ o. Some (or_no_head o)) (known ∙ sym (get_within t.funs u.funs g (fun_of t g) funs_within known)),
+    )
       where
         before_it : IsEntered t c n h
         before_it = (is.classes c lt).heads n h at
@@ -91,20 +101,25 @@ module _ (t : Table) (f : ℕ) (before : List (Option ℕ)) (is : IsTable t befo
         known = known_head t.funs g (omega (arith, owned_in t before c n g d right.1, is.count))
 
     -- and in a class of the file
-    new_entered : (c : ℕ) → many t ≤ c → (n : Name) (h : Option Head) → lookup n (class_of b c).heads ≡ Some h → IsEntered u c n h
+    new_entered : (c : ℕ) → many t ≤ c → (n : Name) (h : Option Head) → lookup n (class_of b c).heads ≡ Some h
+        → IsEntered u c n h
     new_entered c le n h at = (it.0, it.2.0, it.2.1, it.4 ∙ ap (λ o. Some (or_no_head o)) (sym it.3))
       where
         it : EnteredSoFar u f (Some c) n h
-        it = holds_at (EnteredSoFar u f (Some c) n) (lookup n (class_of b c).heads) h at (found_is (λ m o. EnteredSoFar u f (Some c) m o) n (class_of b c).heads (base.noted (EnteredSoFar u f) done c le))
+        it = holds_at (EnteredSoFar u f (Some c) n) (lookup n (class_of b c).heads) h at
+            (found_is (λ m o. EnteredSoFar u f (Some c) m o) n (class_of b c).heads
+            (base.noted (EnteredSoFar u f) done c le))
 
     all_entered : (c : ℕ) (n : Name) (h : Option Head) → lookup n (class_of u c).heads ≡ Some h → IsEntered u c n h
     all_entered c n h at =
-        ⊎_elim (λ lt. old_entered c lt n h (ap (λ (k : Class). lookup n k.heads) (sym (base.old c lt)) ∙ noted)) (λ le. new_entered c le n h noted) (cases_lt c (many t))
+        ⊎_elim (λ lt. old_entered c lt n h (ap (λ (k : Class). lookup n k.heads) (sym (base.old c lt)) ∙ noted))
+        (λ le. new_entered c le n h noted) (cases_lt c (many t))
       where
         noted : lookup n (class_of b c).heads ≡ Some h
         noted = ap (lookup n) (sym (so.names.heads c)) ∙ at
 
-    each_here : (n : Name) (above : List ℕ) → Each (λ c. (h : Option Head) → lookup n (class_of u c).heads ≡ Some h → (x : Head) × (h ≡ Some x)) above
+    each_here : (n : Name) (above : List ℕ) → Each
+        (λ c. (h : Option Head) → lookup n (class_of u c).heads ≡ Some h → (x : Head) × (h ≡ Some x)) above
     each_here n [] = tt
     each_here n (c ∷ above) = ((λ h at. let it = all_entered c n h at in (fun_of u it.0, it.3)), each_here n above)
 
@@ -112,7 +127,8 @@ module _ (t : Table) (f : ℕ) (before : List (Option ℕ)) (is : IsTable t befo
     overrides c n h may = (old.0, found ∙ ap Some old.1, fits.0, fits.1)
       where
         found : overridden u (ancestors u c) n ≡ Some may.0
-        found = overridden_same b u so.names (ancestors u c) n ∙ ap (λ l. overridden b l n) (ancestors_same b u so.names c) ∙ may.1
+        found = overridden_same b u so.names (ancestors u c) n
+            ∙ ap (λ l. overridden b l n) (ancestors_same b u so.names c) ∙ may.1
 
         old : (x : Head) × (may.0 ≡ Some x)
         old = holds_at (λ o. (x : Head) × (o ≡ Some x)) (overridden u (ancestors u c) n) may.0 found
@@ -125,14 +141,24 @@ module _ (t : Table) (f : ℕ) (before : List (Option ℕ)) (is : IsTable t befo
     fun_is : (g : ℕ) (h : Head) → slice_get u.funs g ≡ Some h → fun_of u g ≡ h
     fun_is g h at = ap or_no_head at
 
-    owned_is : (c : ℕ) (n : Name) (g : ℕ) (h : Head) (d : Dispatch) → fun_of u g ≡ h → OwnedSoFar b owners c n g h d → Dispatched (fun_of u g) d × Owned u owners c n g d
+    owned_is : (c : ℕ) (n : Name) (g : ℕ) (h : Head) (d : Dispatch) → fun_of u g ≡ h → OwnedSoFar b owners c n g h d
+        → Dispatched (fun_of u g) d × Owned u owners c n g d
     owned_is c n g h by.Static same so_far = (ap (λ (x : Head). x.is_static) same ∙ so_far.0, so_far.1)
-    owned_is c n g h (by.NewSlot k) same so_far =
-        (ap (λ (x : Head). x.is_static) same ∙ so_far.0, (so_far.1, overridden_same b u so.names (ancestors u c) n ∙ ap (λ l. overridden b l n) (ancestors_same b u so.names c) ∙ so_far.2))
-    owned_is c n g h by.Override same so_far =
-        (ap (λ (x : Head). x.is_static) same ∙ so_far.0, (so_far.1, subst (Overrides u (ancestors u c) n) (sym same) (overrides c n h so_far.2)))
+    owned_is c n g h (by.NewSlot k) same so_far = (
+      ap (λ (x : Head). x.is_static) same ∙ so_far.0,
+      (
+        so_far.1,
+        overridden_same b u so.names (ancestors u c) n
+            ∙ ap (λ l. overridden b l n) (ancestors_same b u so.names c) ∙ so_far.2,
+      ),
+    )
+    owned_is c n g h by.Override same so_far = (
+      ap (λ (x : Head). x.is_static) same ∙ so_far.0,
+      (so_far.1, subst (Overrides u (ancestors u c) n) (sym same) (overrides c n h so_far.2)),
+    )
 
-    own_is : (c : ℕ) (m : Name × Own) → OwnSoFar b u.funs u.statics owners c (class_of u c).fields m → IsOwn u owners c m
+    own_is : (c : ℕ) (m : Name × Own) → OwnSoFar b u.funs u.statics owners c (class_of u c).fields m
+        → IsOwn u owners c m
     own_is c (n, own.Field i k) so_far = so_far
     own_is c (n, own.Static v) so_far = (so_far.0, subst (λ m. ValueIn m v.kind) (sym so.names.many_same) so_far.1)
     own_is c (n, own.Auto) so_far = tt
@@ -148,7 +174,8 @@ module _ (t : Table) (f : ℕ) (before : List (Option ℕ)) (is : IsTable t befo
 
     class_is : (c : ℕ) → c < many u → IsClassOf u owners c
     class_is c lt = record {
-      members = each_map (OwnSoFar b u.funs u.statics owners c (class_of u c).fields) (IsOwn u owners c) (own_is c) (class_of u c).members k.members;
+      members = each_map (OwnSoFar b u.funs u.statics owners c (class_of u c).fields) (IsOwn u owners c) (own_is c)
+          (class_of u c).members k.members;
       found = k.found;
       fields = subst (λ m. Each (ValueIn m) (class_of u c).fields) (sym so.names.many_same) k.fields;
       slots = k.slots;
@@ -170,9 +197,12 @@ module _ (t : Table) (f : ℕ) (before : List (Option ℕ)) (is : IsTable t befo
       parents = ap length so.names.parents ∙ base.many_parents ∙ sym so.names.many_same;
       object = parents_within 0 (omega (arith, is.two)) ∙ is.object;
       event = parents_within 1 (omega (arith, is.two)) ∙ is.event;
-      inner = subst (λ p. Each (λ c. c < many u) p) (sym so.names.parents) (subst (λ m. Each (λ c. c < m) b.parents) (sym so.names.many_same) base.inner);
-      lines = λ c lt. subst (λ p. is_below p c 0 ≡ true) (sym so.names.parents) (base.lines c (omega (arith, lt, so.names.many_same)));
-      publics = subst (λ p. Each (λ (e : Name × ℕ). e.1 < many u) p) (sym so.names.publics) (subst (λ m. Each (λ (e : Name × ℕ). e.1 < m) b.publics) (sym so.names.many_same) base.publics);
+      inner = subst (λ p. Each (λ c. c < many u) p) (sym so.names.parents)
+          (subst (λ m. Each (λ c. c < m) b.parents) (sym so.names.many_same) base.inner);
+      lines = λ c lt. subst (λ p. is_below p c 0 ≡ true) (sym so.names.parents)
+          (base.lines c (omega (arith, lt, so.names.many_same)));
+      publics = subst (λ p. Each (λ (e : Name × ℕ). e.1 < many u) p) (sym so.names.publics)
+          (subst (λ m. Each (λ (e : Name × ℕ). e.1 < m) b.publics) (sym so.names.many_same) base.publics);
       files = so.files;
       statics = subst (λ m. Each (ResultIn m) u.statics) (sym so.names.many_same) so.statics;
       heads = subst (λ m. Each (HeadIn m) u.funs) (sym so.names.many_same) so.heads;
@@ -184,7 +214,8 @@ module _ (t : Table) (f : ℕ) (before : List (Option ℕ)) (is : IsTable t befo
       more = low_le;
       parents = parents_within;
       funs = funs_within;
-      statics = λ i k at some. get_within t.statics u.statics i k (subst (λ l. Within l u.statics) base.statics so.grown) at;
+      statics = λ i k at some. get_within t.statics u.statics i k
+          (subst (λ l. Within l u.statics) base.statics so.grown) at;
       classes = λ c lt. subst (λ k. SameClass k (class_of u c)) (base.old c lt) (so.older c lt);
     }
 
@@ -196,7 +227,8 @@ module _ (t : Table) (f : ℕ) (before : List (Option ℕ)) (is : IsTable t befo
     owners_now = append_assoc before (None ∷ []) (owners_of es) ∙ ap (λ l. before ++ (None ∷ owners_of l)) entries_now
 
     funs_now : u.funs ≡ t.funs ++ heads_of (file_entries u f raw)
-    funs_now = so.funs ∙ ap (λ l. l ++ heads_of es) base.funs ∙ append_assoc t.funs (plain_head true ∷ []) (heads_of es) ∙ ap (λ l. t.funs ++ (plain_head true ∷ heads_of l)) entries_now
+    funs_now = so.funs ∙ ap (λ l. l ++ heads_of es) base.funs ∙ append_assoc t.funs (plain_head true ∷ []) (heads_of es)
+        ∙ ap (λ l. t.funs ++ (plain_head true ∷ heads_of l)) entries_now
 
     facts : IsEnteredFrom t before f raw u
     facts = record {
@@ -207,11 +239,13 @@ module _ (t : Table) (f : ℕ) (before : List (Option ℕ)) (is : IsTable t befo
       many_files = so.names.many_files ∙ base.many_files;
       earlier = λ g lt. so.others g (λ e. absurd (omega (arith, e, lt))) ∙ base.others g lt;
       functions = funs_keep b u f (same_classes b u so.names) (EnteredSoFar u f) raw done;
-      classes = classes_keep b u f (same_classes b u so.names) (IsNew (many t) (many u)) raw (subst (λ m. ClassesHold (IsNew (many t) m) b f raw) (sym so.names.many_same) base.own);
+      classes = classes_keep b u f (same_classes b u so.names) (IsNew (many t) (many u)) raw
+          (subst (λ m. ClassesHold (IsNew (many t) m) b f raw) (sym so.names.many_same) base.own);
     }
 
 -- a whole file is entered
-module _ (t : Table) (f : ℕ) (before : List (Option ℕ)) (is : IsTable t before) (f_is : f ≡ length t.files) (raw : tree.File) where
+module _ (t : Table) (f : ℕ) (before : List (Option ℕ)) (is : IsTable t before) (f_is : f ≡ length t.files)
+    (raw : tree.File) where
   abbrev Facts : Table → Type 0
   Facts = IsEnteredFrom t before f raw
 
@@ -219,10 +253,12 @@ module _ (t : Table) (f : ℕ) (before : List (Option ℕ)) (is : IsTable t befo
   first = before ++ None ∷ []
 
   members_entered : (v : Table) (named : NamedAfter t f first is.two f_is raw v) (w : Table)
-      → CheckedAfter t f first is.two v named.0 (with_parents f v raw) raw w → GivesSuch Facts (enter_items f (with_heads f w raw) raw)
+      → CheckedAfter t f first is.two v named.0 (with_parents f v raw) raw w
+      → GivesSuch Facts (enter_items f (with_heads f w raw) raw)
   members_entered v named w checked =
       subst (λ x. GivesSuch Facts (enter_items f (with_heads f x raw) raw)) (sym checked.0)
-      (gives_map (ItemsAfter b (many t) f first ready raw) Facts (λ u after. facts t f before is raw b base f_is u after.0 after.1) (enter_items f b raw)
+      (gives_map (ItemsAfter b (many t) f first ready raw) Facts
+      (λ u after. facts t f before is raw b base f_is u after.0 after.1) (enter_items f b raw)
       (items_went b (many t) f first ready raw base.own (base_so_far t f before is raw b base)))
     where
       b : Table
@@ -236,31 +272,40 @@ module _ (t : Table) (f : ℕ) (before : List (Option ℕ)) (is : IsTable t befo
 
   all_entered_is : GivesSuch Facts (entered t f raw)
   all_entered_is =
-      gives_then (NamedAfter t f first is.two f_is raw) Facts (with_classes f (begun t) raw) (λ v. and_then (check_parents f (with_parents f v raw) raw) (λ w. enter_items f (with_heads f w raw) raw))
+      gives_then (NamedAfter t f first is.two f_is raw) Facts (with_classes f (begun t) raw)
+      (λ v. and_then (check_parents f (with_parents f v raw) raw) (λ w. enter_items f (with_heads f w raw) raw))
       (classes_named t f first is.two f_is (begun t) (begun_named t before f is f_is) raw)
-      (λ v named. gives_then (CheckedAfter t f first is.two v named.0 (with_parents f v raw) raw) Facts (check_parents f (with_parents f v raw) raw) (λ w. enter_items f (with_heads f w raw) raw)
+      (λ v named. gives_then (CheckedAfter t f first is.two v named.0 (with_parents f v raw) raw) Facts
+      (check_parents f (with_parents f v raw) raw) (λ w. enter_items f (with_heads f w raw) raw)
       (all_checked t f first is.two v named.0 (with_parents f v raw) raw) (members_entered v named))
 
   pub entered_facts : (u : Table) → entered t f raw ≡ gives u → IsEnteredFrom t before f raw u
   entered_facts u e = gives_at Facts (entered t f raw) u e all_entered_is
 
-pub entered_is : (t u : Table) (owners : List (Option ℕ)) (f : ℕ) (raw : tree.File) → IsTable t owners → f ≡ length t.files → entered t f raw ≡ gives u
-    → IsTable u (owners ++ owners_of (file_entries u f raw)) × (u.funs ≡ t.funs ++ heads_of (file_entries u f raw)) × ((file_of u f).main ≡ length t.funs) × IsLater t u
-entered_is t u owners f raw is f_is e = let facts_of = entered_facts t f owners is f_is raw u e in (facts_of.table, facts_of.funs, facts_of.main, facts_of.later)
+pub entered_is : (t u : Table) (owners : List (Option ℕ)) (f : ℕ) (raw : tree.File) → IsTable t owners
+    → f ≡ length t.files → entered t f raw ≡ gives u
+    → IsTable u (owners ++ owners_of (file_entries u f raw)) × (u.funs ≡ t.funs ++ heads_of (file_entries u f raw))
+    × ((file_of u f).main ≡ length t.funs) × IsLater t u
+entered_is t u owners f raw is f_is e = let facts_of = entered_facts t f owners is f_is raw u e in
+    (facts_of.table, facts_of.funs, facts_of.main, facts_of.later)
 
 -- each function of the text has types
 pub heads_are : (t u : Table) (owners : List (Option ℕ)) (f : ℕ) (raw : tree.File) → IsTable t owners
     → f ≡ length t.files → entered t f raw ≡ gives u → FunsHold (λ c n h. (x : Head) × (h ≡ Some x)) u f raw
 heads_are t u owners f raw is f_is e =
-    funs_go (EnteredSoFar u f) (λ c n h. (x : Head) × (h ≡ Some x)) u f (λ c n h so. (so.1, so.4)) raw (entered_facts t f owners is f_is raw u e).functions
+    funs_go (EnteredSoFar u f) (λ c n h. (x : Head) × (h ≡ Some x)) u f (λ c n h so. (so.1, so.4)) raw
+    (entered_facts t f owners is f_is raw u e).functions
 
 -- and is what its name is to those who call it: in its class, and in its file
-pub named_own : (t : Table) (c : ℕ) (n : Name) (o : Own) → lookup n (class_of t c).members ≡ Some o → member_named t c n ≡ Some (as_member t (ancestors t c) n o)
+pub named_own : (t : Table) (c : ℕ) (n : Name) (o : Own) → lookup n (class_of t c).members ≡ Some o
+    → member_named t c n ≡ Some (as_member t (ancestors t c) n o)
 unfolding line_by
 named_own t c n o at = named_in 127
   where
-    named_in : (steps : ℕ) → member_in t (line_within t.parents (suc steps) c) n ≡ Some (as_member t (drop 1 (line_within t.parents (suc steps) c)) n o)
-    named_in steps = ap (λ x. own_member t (drop 1 (line_within t.parents (suc steps) c)) n x (member_in t (drop 1 (line_within t.parents (suc steps) c)) n)) at
+    named_in : (steps : ℕ) → member_in t (line_within t.parents (suc steps) c) n
+        ≡ Some (as_member t (drop 1 (line_within t.parents (suc steps) c)) n o)
+    named_in steps = ap (λ x. own_member t (drop 1 (line_within t.parents (suc steps) c)) n x
+        (member_in t (drop 1 (line_within t.parents (suc steps) c)) n)) at
 
 -- before any file ---------------------------------------------------------------------------------------
 
@@ -286,6 +331,23 @@ new_table_is = record {
     below_object (suc (suc c)) lt = absurd (omega (arith, lt))
 
     empty_class : (c : ℕ) → c < 2 → IsClassOf new_table [] c
-    empty_class zero lt = record { members = tt; found = tt; fields = tt; slots = refl; heads = λ n h at. absurd (cc); body = tt; constructor_is = tt }
-    empty_class (suc zero) lt = record { members = tt; found = tt; fields = tt; slots = refl; heads = λ n h at. absurd (cc); body = tt; constructor_is = tt }
+    empty_class zero lt = record {
+      members = tt;
+      found = tt;
+      fields = tt;
+      slots = refl;
+      heads = λ n h at. absurd (cc);
+      body = tt;
+      constructor_is = tt;
+    }
+    empty_class (suc zero) lt = record {
+      members = tt;
+      found = tt;
+      fields = tt;
+      slots = refl;
+      heads = λ n h at. absurd
+          (cc);
+      body = tt;
+      constructor_is = tt;
+    }
     empty_class (suc (suc c)) lt = absurd (omega (arith, lt))

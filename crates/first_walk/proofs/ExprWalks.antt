@@ -30,7 +30,8 @@ module _ (f : ℕ) (o : Option ℕ) (t : Table) (e : Expr) where
 
   pub new_with_is : (b : Base) (es : List Expr) → e.kind ≡ raw.NewWith b es
       → enter_expr f o t (view_expr e) ≡ enter_exprs f o t (exprs_of no_exprs es)
-  new_with_is b es is = ap (λ k. enter_expr f o t (view_kind e.line k)) is ∙ ap (enter_expr f o t) (view-NewWith e.line b es)
+  new_with_is b es is = ap (λ k. enter_expr f o t (view_kind e.line k)) is
+      ∙ ap (enter_expr f o t) (view-NewWith e.line b es)
 
   pub call_is : (callee : Box Expr Global) (es : List Expr) → e.kind ≡ raw.Call callee es
       → enter_expr f o t (view_expr e)
@@ -49,11 +50,13 @@ module _ (f : ℕ) (o : Option ℕ) (t : Table) (e : Expr) where
 module _ (f : ℕ) (o : Option ℕ) (t : Table) (x : Declarator) where
   pub brackets_are : (bs : List Bracket) → x.tail ≡ tail.Brackets bs
       → enter_behind f o t (view_declr x) ≡ enter_brackets f o t (brackets_of no_brackets bs)
-  brackets_are bs is = ap (λ y. enter_behind f o t (view_tail x.name y)) is ∙ ap (enter_behind f o t) (view-Brackets x.name bs)
+  brackets_are bs is = ap (λ y. enter_behind f o t (view_tail x.name y)) is
+      ∙ ap (enter_behind f o t) (view-Brackets x.name bs)
 
   pub arguments_are : (es : List Expr) → x.tail ≡ tail.Arguments es
       → enter_behind f o t (view_declr x) ≡ enter_exprs f o t (exprs_of no_exprs es)
-  arguments_are es is = ap (λ y. enter_behind f o t (view_tail x.name y)) is ∙ ap (enter_behind f o t) (view-Arguments x.name es)
+  arguments_are es is = ap (λ y. enter_behind f o t (view_tail x.name y)) is
+      ∙ ap (enter_behind f o t) (view-Arguments x.name es)
 
 -- a declaration's name
 tail_name : (n : Name) (y : DeclaratorTail) → declr_name (view_tail n y) ≡ n

@@ -150,29 +150,30 @@ module _ (t : Table) (f : ℕ) (some : 0 < many t) where
     items_room no_items is = tt
     items_room (and_item xs x) is = (items_room xs is.0, item_room x is.1)
 
-  module _ (is : f ≡ length t.files) (raw : tree.File) (u : Table) (named : with_classes f (begun t) raw ≡ gives u) where
-    abbrev heads : Table
-    heads = with_heads f (with_parents f u raw) raw
+  module _ (is : f ≡ length t.files) (raw : tree.File) (u : Table) (named : with_classes f (begun t) raw ≡ gives u)
+    where
+      abbrev heads : Table
+      heads = with_heads f (with_parents f u raw) raw
 
-    fresh : Fresh raw u
-    fresh = gives_at (Fresh raw) (with_classes f (begun t) raw) u named (classes_fresh is raw)
+      fresh : Fresh raw u
+      fresh = gives_at (Fresh raw) (with_classes f (begun t) raw) u named (classes_fresh is raw)
 
-    pub file_ready : FileReady f heads
-    file_ready = heads_ready f (with_parents f u raw) raw (parents_ready f u raw fresh.ready)
+      pub file_ready : FileReady f heads
+      file_ready = heads_ready f (with_parents f u raw) raw (parents_ready f u raw fresh.ready)
 
-    empty_now : (c : ℕ) → many t ≤ c → declared c heads ≤ 0
-    empty_now c le =
-        omega (
-          arith,
-          fresh.empty c le,
-          parents_kept (declared c) (counts_declared (Some c)) f u raw,
-          heads_kept (declared c) (counts_declared (Some c)) f (with_parents f u raw) raw,
-        )
+      empty_now : (c : ℕ) → many t ≤ c → declared c heads ≤ 0
+      empty_now c le =
+          omega (
+            arith,
+            fresh.empty c le,
+            parents_kept (declared c) (counts_declared (Some c)) f u raw,
+            heads_kept (declared c) (counts_declared (Some c)) f (with_parents f u raw) raw,
+          )
 
-    pub file_room : items_size raw ≤ MAX_FILE_TOKENS → HaveRoom heads f (items_size raw) raw
-    file_room short =
-        items_room u heads (heads_files f (with_parents f u raw) raw ∙ parents_files f u raw) empty_now
-        (items_size raw) short raw fresh.own
+      pub file_room : items_size raw ≤ MAX_FILE_TOKENS → HaveRoom heads f (items_size raw) raw
+      file_room short =
+          items_room u heads (heads_files f (with_parents f u raw) raw ∙ parents_files f u raw) empty_now
+          (items_size raw) short raw fresh.own
 
 -- the room of one item ------------------------------------------------------------------------------
 

@@ -21,7 +21,8 @@ use Rattle.type_table.proofs.ListFacts.{Holds, set_keeps, get_within, each_map, 
 use Rattle.first_walk.proofs.SameNames.{SameNames}
 
 -- a class changes but for its file and the types of its functions
-pub class_names : (t : Table) (c : ℕ) (k : Class) → k.file ≡ (class_of t c).file → k.heads ≡ (class_of t c).heads → SameNames t (with_class t c k)
+pub class_names : (t : Table) (c : ℕ) (k : Class) → k.file ≡ (class_of t c).file → k.heads ≡ (class_of t c).heads
+    → SameNames t (with_class t c k)
 class_names t c k file heads = record {
   parents = refl;
   publics = refl;
@@ -34,7 +35,8 @@ class_names t c k file heads = record {
 }
 
 -- a file changes but for its classes
-pub file_names : (t : Table) (f : ℕ) (file : File) → file.classes ≡ (file_of t f).classes → file.main ≡ (file_of t f).main → SameNames t (record t { files = slice_set t.files f file })
+pub file_names : (t : Table) (f : ℕ) (file : File) → file.classes ≡ (file_of t f).classes
+    → file.main ≡ (file_of t f).main → SameNames t (record t { files = slice_set t.files f file })
 file_names t f file classes main = record {
   parents = refl;
   publics = refl;
@@ -50,18 +52,24 @@ file_names t f file classes main = record {
 
 -- a function may override one that the text of an ancestor has
 abbrev pub MayOverride : Table → (class : ℕ) → Name → Head → Type 0
-MayOverride b c n h = (old : Option Head) × (overridden b (ancestors b c) n ≡ Some old) × Holds (λ (x : Head). SameTypes h x × (x.is_static ≡ false)) old
+MayOverride b c n h = (old : Option Head) × (overridden b (ancestors b c) n ≡ Some old)
+    × Holds (λ (x : Head). SameTypes h x × (x.is_static ≡ false)) old
 
 abbrev pub OwnedSoFar : Table → (owners : List (Option ℕ)) → (class : ℕ) → Name → (fun : ℕ) → Head → Dispatch → Type 0
 OwnedSoFar b owners c n f h by.Static = (h.is_static ≡ true) × (slice_get owners f ≡ Some None)
-OwnedSoFar b owners c n f h (by.NewSlot k) = (h.is_static ≡ false) × (slice_get owners f ≡ Some (Some c)) × (overridden b (ancestors b c) n ≡ None)
-OwnedSoFar b owners c n f h by.Override = (h.is_static ≡ false) × (slice_get owners f ≡ Some (Some c)) × MayOverride b c n h
+OwnedSoFar b owners c n f h (by.NewSlot k) = (h.is_static ≡ false) × (slice_get owners f ≡ Some (Some c))
+    × (overridden b (ancestors b c) n ≡ None)
+OwnedSoFar b owners c n f h by.Override = (h.is_static ≡ false) × (slice_get owners f ≡ Some (Some c))
+    × MayOverride b c n h
 
-abbrev pub OwnSoFar : Table → (funs : List Head) → (statics : List Kind) → (owners : List (Option ℕ)) → (class : ℕ) → (fields : List Kind) → Name × Own → Type 0
+abbrev pub OwnSoFar : Table → (funs : List Head) → (statics : List Kind) → (owners : List (Option ℕ)) → (class : ℕ)
+    → (fields : List Kind) → Name × Own → Type 0
 OwnSoFar b funs statics owners c fields (n, own.Field i k) = slice_get fields i ≡ Some k
-OwnSoFar b funs statics owners c fields (n, own.Static v) = (slice_get statics v.index ≡ Some v.kind) × ValueIn (many b) v.kind
+OwnSoFar b funs statics owners c fields (n, own.Static v) = (slice_get statics v.index ≡ Some v.kind)
+    × ValueIn (many b) v.kind
 OwnSoFar b funs statics owners c fields (n, own.Auto) = Unit {0}
-OwnSoFar b funs statics owners c fields (n, own.Fun f d) = (h : Head) × (slice_get funs f ≡ Some h) × OwnedSoFar b owners c n f h d
+OwnSoFar b funs statics owners c fields (n, own.Fun f d) = (h : Head) × (slice_get funs f ≡ Some h)
+    × OwnedSoFar b owners c n f h d
 
 abbrev pub BodySoFar : (funs : List Head) → (owners : List (Option ℕ)) → (class : ℕ) → Option ℕ → Type 0
 BodySoFar funs owners c None = Unit {0}
@@ -71,7 +79,8 @@ abbrev pub ConstructorSoFar : (owners : List (Option ℕ)) → (class : ℕ) →
 ConstructorSoFar owners c None = Unit {0}
 ConstructorSoFar owners c (Some f) = slice_get owners f ≡ Some (Some c)
 
-pub record ClassSoFar (b : Table) (funs : List Head) (statics : List Kind) (owners : List (Option ℕ)) (c : ℕ) (k : Class) : Type 0 where
+pub record ClassSoFar (b : Table) (funs : List Head) (statics : List Kind) (owners : List (Option ℕ)) (c : ℕ)
+    (k : Class) : Type 0 where
   pub members : Each (OwnSoFar b funs statics owners c k.fields) k.members
   pub found : Each (λ (m : Name × Own). lookup m.0 k.members ≡ Some m.1) k.members
   pub fields : Each (ValueIn (many b)) k.fields
@@ -79,9 +88,11 @@ pub record ClassSoFar (b : Table) (funs : List Head) (statics : List Kind) (owne
   pub body : BodySoFar funs owners c k.body
   pub constructor_so_far : ConstructorSoFar owners c k.constructor
 
-module _ (b : Table) (funs more_funs : List Head) (statics more_statics : List Kind) (owners more_owners : List (Option ℕ))
+module _ (b : Table) (funs more_funs : List Head) (statics more_statics : List Kind)
+    (owners more_owners : List (Option ℕ))
     (wf : Within funs more_funs) (ws : Within statics more_statics) (wo : Within owners more_owners) (c : ℕ) where
-  owned_grows : (n : Name) (f : ℕ) (h : Head) (d : Dispatch) → OwnedSoFar b owners c n f h d → OwnedSoFar b more_owners c n f h d
+  owned_grows : (n : Name) (f : ℕ) (h : Head) (d : Dispatch) → OwnedSoFar b owners c n f h d
+      → OwnedSoFar b more_owners c n f h d
   owned_grows n f h by.Static so = (so.0, get_within owners more_owners f None wo so.1)
   owned_grows n f h (by.NewSlot k) so = (so.0, get_within owners more_owners f (Some c) wo so.1, so.2)
   owned_grows n f h by.Override so = (so.0, get_within owners more_owners f (Some c) wo so.1, so.2)
@@ -91,19 +102,27 @@ module _ (b : Table) (funs more_funs : List Head) (statics more_statics : List K
   own_grows fields more wk (n, own.Field i k) so = get_within fields more i k wk so
   own_grows fields more wk (n, own.Static v) so = (get_within statics more_statics v.index v.kind ws so.0, so.1)
   own_grows fields more wk (n, own.Auto) so = tt
-  own_grows fields more wk (n, own.Fun f d) so = (so.0, get_within funs more_funs f so.0 wf so.1, owned_grows n f so.0 d so.2)
+  own_grows fields more wk (n, own.Fun f d) so =
+      (so.0, get_within funs more_funs f so.0 wf so.1, owned_grows n f so.0 d so.2)
 
   body_grows : (body : Option ℕ) → BodySoFar funs owners c body → BodySoFar more_funs more_owners c body
   body_grows None so = tt
-  body_grows (Some f) so = (get_within owners more_owners f (Some c) wo so.0, get_within funs more_funs f (plain_head false) wf so.1)
+  body_grows (Some f) so = (
+    get_within owners more_owners f (Some c) wo so.0,
+    get_within funs more_funs f
+        (plain_head false) wf so.1,
+  )
 
   constructor_grows : (o : Option ℕ) → ConstructorSoFar owners c o → ConstructorSoFar more_owners c o
   constructor_grows None so = tt
   constructor_grows (Some f) so = get_within owners more_owners f (Some c) wo so
 
-  pub class_grows : (k : Class) → ClassSoFar b funs statics owners c k → ClassSoFar b more_funs more_statics more_owners c k
+  pub class_grows : (k : Class) → ClassSoFar b funs statics owners c k
+      → ClassSoFar b more_funs more_statics more_owners c k
   class_grows k so = record {
-    members = each_map (OwnSoFar b funs statics owners c k.fields) (OwnSoFar b more_funs more_statics more_owners c k.fields) (own_grows k.fields k.fields (within_same k.fields)) k.members so.members;
+    members = each_map (OwnSoFar b funs statics owners c k.fields)
+        (OwnSoFar b more_funs more_statics more_owners c k.fields) (own_grows k.fields k.fields (within_same k.fields))
+        k.members so.members;
     found = so.found;
     fields = so.fields;
     slots = so.slots;
@@ -111,7 +130,8 @@ module _ (b : Table) (funs more_funs : List Head) (statics more_statics : List K
     constructor_so_far = constructor_grows k.constructor so.constructor_so_far;
   }
 
-  new_slots_push : (ms : List (Name × Own)) (m : Name × Own) → new_slots (ms ++ m ∷ []) ≡ new_slots ms ++ new_slots (m ∷ [])
+  new_slots_push : (ms : List (Name × Own)) (m : Name × Own) → new_slots (ms ++ m ∷ []) ≡ new_slots ms
+      ++ new_slots (m ∷ [])
   new_slots_push [] m = refl
   new_slots_push ((n, own.Field i k) ∷ ms) m = new_slots_push ms m
   new_slots_push ((n, own.Static v) ∷ ms) m = new_slots_push ms m
@@ -121,22 +141,27 @@ module _ (b : Table) (funs more_funs : List Head) (statics more_statics : List K
   new_slots_push ((n, own.Fun f by.Override) ∷ ms) m = new_slots_push ms m
 
   -- a class gets one member more
-  pub class_more : (k l : Class) (n : Name) (o : Own) → Within k.fields l.fields → Each (ValueIn (many b)) l.fields → l.members ≡ k.members ++ (n, o) ∷ [] → lookup n k.members ≡ None
-      → OwnSoFar b more_funs more_statics more_owners c l.fields (n, o) → numbers k.slots ++ new_slots ((n, o) ∷ []) ≡ numbers l.slots → l.body ≡ k.body → l.constructor ≡ k.constructor
+  pub class_more : (k l : Class) (n : Name) (o : Own) → Within k.fields l.fields → Each (ValueIn (many b)) l.fields
+      → l.members ≡ k.members ++ (n, o) ∷ [] → lookup n k.members ≡ None
+      → OwnSoFar b more_funs more_statics more_owners c l.fields (n, o) → numbers k.slots
+      ++ new_slots ((n, o) ∷ []) ≡ numbers l.slots → l.body ≡ k.body → l.constructor ≡ k.constructor
       → ClassSoFar b funs statics owners c k → ClassSoFar b more_funs more_statics more_owners c l
   class_more k l n o wk fields members new one slots body made so = record {
     members = subst (Each (OwnSoFar b more_funs more_statics more_owners c l.fields)) (sym members)
         (each_push (OwnSoFar b more_funs more_statics more_owners c l.fields) k.members (n, o)
-        (each_map (OwnSoFar b funs statics owners c k.fields) (OwnSoFar b more_funs more_statics more_owners c l.fields) (own_grows k.fields l.fields wk) k.members so.members) one);
+        (each_map (OwnSoFar b funs statics owners c k.fields) (OwnSoFar b more_funs more_statics more_owners c l.fields)
+        (own_grows k.fields l.fields wk) k.members so.members) one);
     found = subst (λ ms. Each (λ (m : Name × Own). lookup m.0 ms ≡ Some m.1) ms) (sym members)
         (each_push (λ (m : Name × Own). lookup m.0 all ≡ Some m.1) k.members (n, o)
         (each_map (λ (m : Name × Own). lookup m.0 k.members ≡ Some m.1) (λ (m : Name × Own). lookup m.0 all ≡ Some m.1)
         (λ m e. lookup_within m.0 k.members all m.1 ((n, o) ∷ [], refl) e) k.members so.found)
         (lookup_new n k.members o new));
     fields = fields;
-    slots = ap new_slots members ∙ new_slots_push k.members (n, o) ∙ ap (λ s. s ++ new_slots ((n, o) ∷ [])) so.slots ∙ slots;
+    slots = ap new_slots members ∙ new_slots_push k.members (n, o) ∙ ap (λ s. s ++ new_slots ((n, o) ∷ [])) so.slots
+        ∙ slots;
     body = subst (BodySoFar more_funs more_owners c) (sym body) (body_grows k.body so.body);
-    constructor_so_far = subst (ConstructorSoFar more_owners c) (sym made) (constructor_grows k.constructor so.constructor_so_far);
+    constructor_so_far = subst (ConstructorSoFar more_owners c) (sym made)
+        (constructor_grows k.constructor so.constructor_so_far);
   }
     where
       all : List (Name × Own)
@@ -147,10 +172,14 @@ module _ (b : Table) (funs more_funs : List Head) (statics more_statics : List K
 within_length : {A : Type 0} (xs ys : List A) → Within xs ys → length xs ≤ length ys
 within_length xs ys more = omega (arith, ap length more.1 ∙ length-append xs more.0)
 
-pub file_grows : (t u : Table) (owners more : List (Option ℕ)) (file : File) → many t ≤ many u → Within t.statics u.statics → Within owners more → IsFileOf t owners file → IsFileOf u more file
+pub file_grows : (t u : Table) (owners more : List (Option ℕ)) (file : File) → many t ≤ many u
+    → Within t.statics u.statics → Within owners more → IsFileOf t owners file → IsFileOf u more file
 file_grows t u owners more file le ws wo so = record {
-  classes = each_map (λ (e : Name × ℕ). e.1 < many t) (λ (e : Name × ℕ). e.1 < many u) (λ e lt. omega (arith, le, lt)) file.classes so.classes;
-  funs = each_map (λ (e : Name × ℕ). slice_get owners e.1 ≡ Some None) (λ (e : Name × ℕ). slice_get more e.1 ≡ Some None) (λ e is. get_within owners more e.1 None wo is) file.funs so.funs;
+  classes = each_map (λ (e : Name × ℕ). e.1 < many t) (λ (e : Name × ℕ). e.1 < many u) (λ e lt. omega (arith, le, lt))
+      file.classes so.classes;
+  funs = each_map (λ (e : Name × ℕ). slice_get owners e.1 ≡ Some None)
+      (λ (e : Name × ℕ). slice_get more e.1 ≡ Some None) (λ e is. get_within owners more e.1 None wo is) file.funs
+      so.funs;
   variables =
       each_map (λ (e : Name × ℕ). e.1 < length t.statics) (λ (e : Name × ℕ). e.1 < length u.statics)
       (λ e lt. omega (arith, lt, within_length t.statics u.statics ws)) file.variables so.variables;

@@ -22,8 +22,12 @@ kinds_of None k ks is = absurd (cc)
 pub head_parts : (s : Bool) (ks : Option (List Kind)) (k : Option Kind) (h : Head) → head_with s ks k ≡ Some h
     → (ks ≡ Some h.params) × (k ≡ Some h.result) × (h.is_static ≡ s)
 head_parts s (Some ks) (Some k) h is =
-    let same : h ≡ record { params = ks; result = k; is_static = s } = cc in
-    (ap (λ (g : Head). Some g.params) (sym same), ap (λ (g : Head). Some g.result) (sym same), ap (λ (g : Head). g.is_static) same)
+    let same : h ≡ record { params = ks; result = k; is_static = s } = cc in (
+      ap (λ (g : Head). Some g.params) (sym same),
+      ap (λ (g : Head). Some g.result) (sym same),
+      ap
+          (λ (g : Head). g.is_static) same,
+    )
 head_parts s (Some ks) None h is = absurd (cc)
 head_parts s None k h is = absurd (cc)
 

@@ -67,7 +67,8 @@ counts_entries = record {
   auto_member = λ t c n. omega (arith, auto_same t c n);
   construct = λ t c h. omega (arith, constructor_more t c h);
   body = λ t c ms.
-      if_up entries (entries t + 1) (has_statement ms) (with_braces t c) t (omega (arith, braces_more t c)) (omega arith);
+      if_up entries (entries t + 1) (has_statement ms) (with_braces t c) t (omega (arith, braces_more t c))
+      (omega arith);
 }
 
 -- fields and slots --------------------------------------------------------------------------------

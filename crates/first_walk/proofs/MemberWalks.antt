@@ -35,7 +35,8 @@ module _ (t : Table) (f : ℕ) where
 
 -- what a head says
 module _ (t : Table) (f l : ℕ) (ps : Params) (body : Stmts) where
-  head_says : (x : FunHead) → head_of t f (headed l x ps body) ≡ head_with (says_static x) (param_kinds t f ps) (result_of t f x)
+  head_says : (x : FunHead) → head_of t f (headed l x ps body)
+      ≡ head_with (says_static x) (param_kinds t f ps) (result_of t f x)
   head_says (head.Named is_static result name) = refl
   head_says head.Construct = refl
 
@@ -45,10 +46,12 @@ module _ (t : Table) (f l : ℕ) (ps : Params) (body : Stmts) where
 
 -- the types of a function of the program
 module _ (t : Table) (f : ℕ) (x : FunDef) where
-  pub headed_is : head_of t f (view_fun x) ≡ head_with (says_static x.head) (param_kinds t f (params_of no_params x.params)) (result_of t f x.head)
+  pub headed_is : head_of t f (view_fun x) ≡ head_with (says_static x.head)
+      (param_kinds t f (params_of no_params x.params)) (result_of t f x.head)
   headed_is = head_says t f x.line (params_of no_params x.params) (stmts_of no_stmts x.body) x.head
 
-  pub unknown_is : has_unknown t f (view_fun x) ≡ has_unknown_result t f x.head || names_unknown t f (params_of no_params x.params)
+  pub unknown_is : has_unknown t f (view_fun x) ≡ has_unknown_result t f x.head
+      || names_unknown t f (params_of no_params x.params)
   unknown_is = unknown_says t f x.line (params_of no_params x.params) (stmts_of no_stmts x.body) x.head
 
 module _ (f c : ℕ) where

@@ -182,7 +182,8 @@ module _ (m : Table → ℕ) (is_measure : IsMeasure m) (f : ℕ) where
   of_kind_up : (n : ℕ) (t : Table) (l : ℕ) (o : Option ℕ) (h : DeclHead) (name : Name) (k : Option Kind)
       → m t + 1 ≤ n → UpTo n (enter_of_kind t f l o h name k)
   of_kind_up n t l o h name None le = tt
-  of_kind_up n t l None h name (Some k) le = if_up n h.is_static _ _ tt (omega (arith, le, is_measure.variable t f name k))
+  of_kind_up n t l None h name (Some k) le = if_up n h.is_static _ _ tt
+      (omega (arith, le, is_measure.variable t f name k))
   of_kind_up n t l (Some c) h name (Some k) le =
       if_up n (not h.is_static) _ _ (omega (arith, le, is_measure.field t c name k))
       (if_up n (may_be_static h k) _ _ (omega (arith, le, is_measure.static t c name k)) tt)

@@ -28,11 +28,13 @@ pub gives_map : {A : Type 0} (P Q : A → Type 0) → ((a : A) → P a → Q a) 
 gives_map P Q f (gives a) so = f a so
 gives_map P Q f (refused why) so = tt
 
-pub gives_then : {A B : Type 0} (P : A → Type 0) (Q : B → Type 0) (x : Answer A) (next : A → Answer B) → GivesSuch P x → ((a : A) → P a → GivesSuch Q (next a)) → GivesSuch Q (and_then x next)
+pub gives_then : {A B : Type 0} (P : A → Type 0) (Q : B → Type 0) (x : Answer A) (next : A → Answer B) → GivesSuch P x
+    → ((a : A) → P a → GivesSuch Q (next a)) → GivesSuch Q (and_then x next)
 gives_then P Q (gives a) next so goes = goes a so
 gives_then P Q (refused why) next so goes = tt
 
-pub gives_if : {A : Type 0} (P : A → Type 0) (b : Bool) (x y : Answer A) → (b ≡ true → GivesSuch P x) → (b ≡ false → GivesSuch P y) → GivesSuch P (if b then x else y)
+pub gives_if : {A : Type 0} (P : A → Type 0) (b : Bool) (x y : Answer A) → (b ≡ true → GivesSuch P x)
+    → (b ≡ false → GivesSuch P y) → GivesSuch P (if b then x else y)
 gives_if P true x y yes_so no_so = yes_so refl
 gives_if P false x y yes_so no_so = no_so refl
 
@@ -49,7 +51,17 @@ pub record SameNames (t u : Table) : Type 0 where
   pub heads : (c : ℕ) → (class_of u c).heads ≡ (class_of t c).heads
 
 pub same_self : (t : Table) → SameNames t t
-same_self t = record { parents = refl; publics = refl; many_same = refl; many_files = refl; classes = λ g. refl; mains = λ g. refl; files = λ c. refl; heads = λ c. refl }
+same_self t = record {
+  parents = refl;
+  publics = refl;
+  many_same = refl;
+  many_files = refl;
+  classes = λ g. refl;
+  mains =
+      λ g. refl;
+  files = λ c. refl;
+  heads = λ c. refl;
+}
 
 pub same_then : (t u v : Table) → SameNames t u → SameNames u v → SameNames t v
 same_then t u v a b = record {
@@ -73,7 +85,12 @@ pub same_classes : (t u : Table) → SameNames t u → SameClasses t u
 same_classes t u same = record { publics = same.publics; classes = same.classes; files = same.files }
 
 pub classes_then : (t u v : Table) → SameClasses t u → SameClasses u v → SameClasses t v
-classes_then t u v a b = record { publics = b.publics ∙ a.publics; classes = λ g. b.classes g ∙ a.classes g; files = λ c. b.files c ∙ a.files c }
+classes_then t u v a b = record {
+  publics = b.publics ∙ a.publics;
+  classes = λ g. b.classes g
+      ∙ a.classes g;
+  files = λ c. b.files c ∙ a.files c;
+}
 
 module _ (t u : Table) (same : SameClasses t u) where
   pub own_same : (f : ℕ) (n : Name) → own_class u f n ≡ own_class t f n
@@ -85,8 +102,10 @@ module _ (t u : Table) (same : SameClasses t u) where
 
   pub class_same : (f : ℕ) (n : Name) → class_named u f n ≡ class_named t f n
   class_same f n =
-      ap (λ l. or_else (lookup n l) (or_else (seen_from u f (lookup n u.publics)) (as_class (built_in n)))) (same.classes f)
-      ∙ ap (λ o. or_else (lookup n (file_of t f).classes) (or_else o (as_class (built_in n)))) (seen_same f (lookup n u.publics) ∙ ap (λ l. seen_from t f (lookup n l)) same.publics)
+      ap (λ l. or_else (lookup n l) (or_else (seen_from u f (lookup n u.publics)) (as_class (built_in n))))
+      (same.classes f)
+      ∙ ap (λ o. or_else (lookup n (file_of t f).classes) (or_else o (as_class (built_in n))))
+      (seen_same f (lookup n u.publics) ∙ ap (λ l. seen_from t f (lookup n l)) same.publics)
 
   pub named_same : (f : ℕ) (b : Base) → named_by u f b ≡ named_by t f b
   named_same f base.Int = refl
@@ -102,7 +121,8 @@ module _ (t u : Table) (same : SameClasses t u) where
 
   pub params_same : (f : ℕ) (ps : Params) → param_kinds u f ps ≡ param_kinds t f ps
   params_same f no_params = refl
-  params_same f (and_param ps p) = ap (λ ks. and_kind ks (param_kind u f p)) (params_same f ps) ∙ ap (and_kind (param_kinds t f ps)) (param_same f p)
+  params_same f (and_param ps p) = ap (λ ks. and_kind ks (param_kind u f p)) (params_same f ps)
+      ∙ ap (and_kind (param_kinds t f ps)) (param_same f p)
 
   pub head_same : (f : ℕ) (g : Fun) → head_of u f g ≡ head_of t f g
   head_same f (tree.fun l s result n ps body) =
@@ -112,23 +132,27 @@ module _ (t u : Table) (same : SameClasses t u) where
 
   -- the functions of a text
   fun_same : (f : ℕ) (c : Option ℕ) (g : Fun) → fun_entry u f c g ≡ fun_entry t f c g
-  fun_same f c (tree.fun l s result n ps body) = ap (λ h. (or_no_head h, owner c s)) (head_same f (tree.fun l s result n ps body))
+  fun_same f c (tree.fun l s result n ps body) = ap (λ h. (or_no_head h, owner c s))
+      (head_same f (tree.fun l s result n ps body))
   fun_same f c (tree.constructor l ps body) = ap (λ h. (or_no_head h, c)) (head_same f (tree.constructor l ps body))
 
   members_same : (f c : ℕ) (ms : Members) → member_entries u f c ms ≡ member_entries t f c ms
   members_same f c no_members = refl
   members_same f c (and_member ms (stmt_member s)) = members_same f c ms
-  members_same f c (and_member ms (fun_member g)) = ap (λ es. es ++ fun_entry u f (Some c) g ∷ []) (members_same f c ms) ∙ ap (λ e. member_entries t f c ms ++ e ∷ []) (fun_same f (Some c) g)
+  members_same f c (and_member ms (fun_member g)) = ap (λ es. es ++ fun_entry u f (Some c) g ∷ []) (members_same f c ms)
+      ∙ ap (λ e. member_entries t f c ms ++ e ∷ []) (fun_same f (Some c) g)
 
   item_same : (f : ℕ) (x : tree.Item) → item_entries u f x ≡ item_entries t f x
   item_same f (class_item (tree.class l is_public n parent ms)) =
-      ap (λ c. body_entries (has_statement ms) c ++ member_entries u f c ms) (own_same f n) ∙ ap (λ es. body_entries (has_statement ms) (own_class t f n) ++ es) (members_same f (own_class t f n) ms)
+      ap (λ c. body_entries (has_statement ms) c ++ member_entries u f c ms) (own_same f n)
+      ∙ ap (λ es. body_entries (has_statement ms) (own_class t f n) ++ es) (members_same f (own_class t f n) ms)
   item_same f (fun_item g) = ap (λ e. e ∷ []) (fun_same f None g)
   item_same f (stmt_item s) = refl
 
   pub items_same : (f : ℕ) (xs : tree.File) → items_entries u f xs ≡ items_entries t f xs
   items_same f no_items = refl
-  items_same f (and_item xs x) = ap (λ es. es ++ item_entries u f x) (items_same f xs) ∙ ap (λ es. items_entries t f xs ++ es) (item_same f x)
+  items_same f (and_item xs x) = ap (λ es. es ++ item_entries u f x) (items_same f xs)
+      ∙ ap (λ es. items_entries t f xs ++ es) (item_same f x)
 
 module _ (t u : Table) (same : SameNames t u) where
   pub line_same : (c : ℕ) → line u c ≡ line t c
@@ -139,4 +163,5 @@ module _ (t u : Table) (same : SameNames t u) where
 
   pub overridden_same : (above : List ℕ) (n : Name) → overridden u above n ≡ overridden t above n
   overridden_same [] n = refl
-  overridden_same (c ∷ above) n = ap (λ l. or_else (lookup n l) (overridden u above n)) (same.heads c) ∙ ap (or_else (lookup n (class_of t c).heads)) (overridden_same above n)
+  overridden_same (c ∷ above) n = ap (λ l. or_else (lookup n l) (overridden u above n)) (same.heads c)
+      ∙ ap (or_else (lookup n (class_of t c).heads)) (overridden_same above n)

@@ -32,7 +32,8 @@ abbrev pub Entry : Type 0
 Entry = Head × Option ℕ
 
 abbrev pub fun_entry : Table → (file : ℕ) → (class : Option ℕ) → tree.Fun → Entry
-fun_entry t file class (tree.fun l is_static result n ps body) = (or_no_head (head_of t file (tree.fun l is_static result n ps body)), owner class is_static)
+fun_entry t file class (tree.fun l is_static result n ps body) =
+    (or_no_head (head_of t file (tree.fun l is_static result n ps body)), owner class is_static)
 fun_entry t file class (tree.constructor l ps body) = (or_no_head (head_of t file (tree.constructor l ps body)), class)
 
 -- the functions of a class, in text order
@@ -47,7 +48,8 @@ body_entries true c = (plain_head false, Some c) ∷ []
 body_entries false c = []
 
 abbrev pub item_entries : Table → (file : ℕ) → tree.Item → List Entry
-item_entries t file (class_item (tree.class l is_public n parent ms)) = body_entries (has_statement ms) (own_class t file n) ++ member_entries t file (own_class t file n) ms
+item_entries t file (class_item (tree.class l is_public n parent ms)) = body_entries (has_statement ms)
+    (own_class t file n) ++ member_entries t file (own_class t file n) ms
 item_entries t file (fun_item f) = fun_entry t file None f ∷ []
 item_entries t file (stmt_item s) = []
 
@@ -78,7 +80,8 @@ Dispatched h by.Override = h.is_static ≡ false
 
 -- the nearest of these classes that has a function of the name by its text has one of these types
 abbrev pub Overrides : Table → (above : List ℕ) → Name → Head → Type 0
-Overrides t above n h = (old : Head) × (overridden t above n ≡ Some (Some old)) × SameTypes h old × (old.is_static ≡ false)
+Overrides t above n h = (old : Head) × (overridden t above n ≡ Some (Some old)) × SameTypes h old
+    × (old.is_static ≡ false)
 
 abbrev pub Owned : Table → (owners : List (Option ℕ)) → (class : ℕ) → Name → (fun : ℕ) → Dispatch → Type 0
 Owned t owners c n f by.Static = slice_get owners f ≡ Some None
@@ -100,7 +103,8 @@ new_slots (m ∷ rest) = new_slots rest
 
 -- each function that the text of a class has was entered
 abbrev pub IsEntered : Table → (class : ℕ) → Name → Option Head → Type 0
-IsEntered t c n h = (f : ℕ) × (d : Dispatch) × (lookup n (class_of t c).members ≡ Some (own.Fun f d)) × (h ≡ Some (fun_of t f))
+IsEntered t c n h = (f : ℕ) × (d : Dispatch) × (lookup n (class_of t c).members ≡ Some (own.Fun f d))
+    × (h ≡ Some (fun_of t f))
 
 -- the function of the statements in the braces takes the object alone
 abbrev pub IsBodyOf : Table → (owners : List (Option ℕ)) → (class : ℕ) → Option ℕ → Type 0
@@ -155,7 +159,8 @@ pub record SameClass (a b : Class) : Type 0 where
 
 -- what has a kind keeps it; what is void may get one
 abbrev pub KindsStay : (before behind : List Kind) → Type 0
-KindsStay before behind = (i : ℕ) (k : Kind) → slice_get before i ≡ Some k → (k ≡ Void → ⊥) → slice_get behind i ≡ Some k
+KindsStay before behind = (i : ℕ) (k : Kind) → slice_get before i ≡ Some k → (k ≡ Void → ⊥)
+    → slice_get behind i ≡ Some k
 
 -- more files were entered, or variables with `auto` got their kinds
 pub record IsLater (t u : Table) : Type 0 where

@@ -9,7 +9,8 @@ use Rattle.first_walk.proofs.SameNames.{SameClasses, own_same, head_same}
 
 -- Q says something of the class that has a function, its name, and its types; a constructor has no name,
 -- but types
-abbrev pub FunHolds : (Q : Option ℕ → Name → Option Head → Type 0) → Table → (file : ℕ) → (class : Option ℕ) → Fun → Type 0
+abbrev pub FunHolds : (Q : Option ℕ → Name → Option Head → Type 0) → Table → (file : ℕ) → (class : Option ℕ) → Fun
+    → Type 0
 FunHolds Q t f c (tree.fun l s result n ps body) = Q c n (head_of t f (tree.fun l s result n ps body))
 FunHolds Q t f c (tree.constructor l ps body) = (h : Head) × (head_of t f (tree.constructor l ps body) ≡ Some h)
 
@@ -38,7 +39,8 @@ ClassesHold C t f (and_item xs x) = ClassesHold C t f xs × ClassHolds C t f x
 
 -- what follows for each
 
-module _ (Q R : Option ℕ → Name → Option Head → Type 0) (t : Table) (f : ℕ) (goes : (c : Option ℕ) (n : Name) (h : Option Head) → Q c n h → R c n h) where
+module _ (Q R : Option ℕ → Name → Option Head → Type 0) (t : Table) (f : ℕ)
+    (goes : (c : Option ℕ) (n : Name) (h : Option Head) → Q c n h → R c n h) where
   pub fun_goes : (c : Option ℕ) (g : Fun) → FunHolds Q t f c g → FunHolds R t f c g
   fun_goes c (tree.fun l s result n ps body) so = goes c n (head_of t f (tree.fun l s result n ps body)) so
   fun_goes c (tree.constructor l ps body) so = so
@@ -62,7 +64,8 @@ module _ (Q R : Option ℕ → Name → Option Head → Type 0) (t : Table) (f :
 module _ (t u : Table) (f : ℕ) (same : SameClasses t u) where
   module _ (Q : Option ℕ → Name → Option Head → Type 0) where
     fun_keeps : (c : Option ℕ) (g : Fun) → FunHolds Q t f c g → FunHolds Q u f c g
-    fun_keeps c (tree.fun l s result n ps body) so = subst (Q c n) (sym (head_same t u same f (tree.fun l s result n ps body))) so
+    fun_keeps c (tree.fun l s result n ps body) so = subst (Q c n)
+        (sym (head_same t u same f (tree.fun l s result n ps body))) so
     fun_keeps c (tree.constructor l ps body) so = (so.0, head_same t u same f (tree.constructor l ps body) ∙ so.1)
 
     members_keep : (c : ℕ) (ms : Members) → MembersHold Q t f c ms → MembersHold Q u f c ms
@@ -71,7 +74,8 @@ module _ (t u : Table) (f : ℕ) (same : SameClasses t u) where
     members_keep c (and_member ms (stmt_member s)) so = members_keep c ms so
 
     item_keeps : (x : Item) → ItemHolds Q t f x → ItemHolds Q u f x
-    item_keeps (class_item (tree.class l is_public n parent ms)) so = subst (λ c. MembersHold Q u f c ms) (sym (own_same t u same f n)) (members_keep (own_class t f n) ms so)
+    item_keeps (class_item (tree.class l is_public n parent ms)) so = subst (λ c. MembersHold Q u f c ms)
+        (sym (own_same t u same f n)) (members_keep (own_class t f n) ms so)
     item_keeps (fun_item g) so = fun_keeps None g so
     item_keeps (stmt_item s) so = tt
 

@@ -80,11 +80,13 @@ result_of_value m (kind.Grid e) so = so
 result_in : (m : ℕ) (n : Named) (brackets : ℕ) → NamedIn m n → Holds (ResultIn m) (result_kind n brackets)
 result_in m named.Void zero so = tt
 result_in m named.Void (suc b) so = tt
-result_in m (named.Elem e) b so = holds_map (ValueIn m) (ResultIn m) (result_of_value m) (kind_of e b) (kind_in m e b so)
+result_in m (named.Elem e) b so = holds_map (ValueIn m) (ResultIn m) (result_of_value m) (kind_of e b)
+    (kind_in m e b so)
 result_in m named.Unknown b so = tt
 result_in m named.NoType b so = tt
 
-pub declared_in : (m : ℕ) (h : DeclHead) (n : Named) (bs : Brackets) → NamedIn m n → Holds (ValueIn m) (declared_kind h n bs)
+pub declared_in : (m : ℕ) (h : DeclHead) (n : Named) (bs : Brackets) → NamedIn m n
+    → Holds (ValueIn m) (declared_kind h n bs)
 declared_in m h (named.Elem e) bs so = go (has_form h e bs)
   where
     go : (b : Bool) → Holds (ValueIn m) (if b then kind_of e (count bs) else None)
@@ -106,19 +108,22 @@ pub written_in : (m : ℕ) (h : DeclHead) (n : Named) (x : Declr) → NamedIn m 
 written_in m h n (declr name bs) so = declared_in m h n bs so
 written_in m h n (declr_with name es) so = made_in m n so
 
-and_kind_in : (m : ℕ) (ks : Option (List Kind)) (k : Option Kind) → Holds (Each (ValueIn m)) ks → Holds (ValueIn m) k → Holds (Each (ValueIn m)) (and_kind ks k)
+and_kind_in : (m : ℕ) (ks : Option (List Kind)) (k : Option Kind) → Holds (Each (ValueIn m)) ks → Holds (ValueIn m) k
+    → Holds (Each (ValueIn m)) (and_kind ks k)
 and_kind_in m (Some ks) (Some k) all it = each_push (ValueIn m) ks k all it
 and_kind_in m (Some ks) None all it = tt
 and_kind_in m None k all it = tt
 
-head_with_in : (m : ℕ) (s : Bool) (ks : Option (List Kind)) (k : Option Kind) → Holds (Each (ValueIn m)) ks → Holds (ResultIn m) k → Holds (λ h. HeadIn m h × (h.is_static ≡ s)) (head_with s ks k)
+head_with_in : (m : ℕ) (s : Bool) (ks : Option (List Kind)) (k : Option Kind) → Holds (Each (ValueIn m)) ks
+    → Holds (ResultIn m) k → Holds (λ h. HeadIn m h × (h.is_static ≡ s)) (head_with s ks k)
 head_with_in m s (Some ks) (Some k) all it = ((all, it), refl)
 head_with_in m s (Some ks) None all it = tt
 head_with_in m s None k all it = tt
 
 -- of a text ---------------------------------------------------------------------------------------
 
-module _ (t : Table) (f m : ℕ) (two : 2 ≤ m) (classes : Each (λ (e : Name × ℕ). e.1 < m) (file_of t f).classes) (publics : Each (λ (e : Name × ℕ). e.1 < m) t.publics) where
+module _ (t : Table) (f m : ℕ) (two : 2 ≤ m) (classes : Each (λ (e : Name × ℕ). e.1 < m) (file_of t f).classes)
+    (publics : Each (λ (e : Name × ℕ). e.1 < m) t.publics) where
   seen_in : (o : Option ℕ) → Holds (λ c. c < m) o → Holds (λ c. c < m) (seen_from t f o)
   seen_in None so = tt
   seen_in (Some c) so = go (nat_lt (class_of t c).file f)
@@ -129,9 +134,12 @@ module _ (t : Table) (f m : ℕ) (two : 2 ≤ m) (classes : Each (λ (e : Name �
 
   pub class_in : (n : Name) → Holds (λ c. c < m) (class_named t f n)
   class_in n =
-      holds_else (λ c. c < m) (lookup n (file_of t f).classes) (or_else (seen_from t f (lookup n t.publics)) (as_class (built_in n))) (found_holds (λ c. c < m) n (file_of t f).classes classes)
+      holds_else (λ c. c < m) (lookup n (file_of t f).classes)
+      (or_else (seen_from t f (lookup n t.publics)) (as_class (built_in n)))
+      (found_holds (λ c. c < m) n (file_of t f).classes classes)
       (holds_else (λ c. c < m) (seen_from t f (lookup n t.publics)) (as_class (built_in n))
-      (seen_in (lookup n t.publics) (found_holds (λ c. c < m) n t.publics publics)) (built_class m two (built_in n) (all_built_in n)))
+      (seen_in (lookup n t.publics) (found_holds (λ c. c < m) n t.publics publics))
+      (built_class m two (built_in n) (all_built_in n)))
 
   type_in : (n : Name) (o : Option ℕ) → Holds (λ c. c < m) o → NamedIn m (class_type n o)
   type_in n None so = built_named m two (built_in n) (all_built_in n)
@@ -154,12 +162,15 @@ module _ (t : Table) (f m : ℕ) (two : 2 ≤ m) (classes : Each (λ (e : Name �
   params_in (and_param ps p) = and_kind_in m (param_kinds t f ps) (param_kind t f p) (params_in ps) (param_in p)
 
   -- the types of a function, which is static as its text says
-  pub head_in : (l : ℕ) (s : Bool) (result : _) (n : Name) (ps : Params) (body : _) → Holds (λ h. HeadIn m h × (h.is_static ≡ s)) (head_of t f (tree.fun l s result n ps body))
+  pub head_in : (l : ℕ) (s : Bool) (result : _) (n : Name) (ps : Params) (body : _)
+      → Holds (λ h. HeadIn m h × (h.is_static ≡ s)) (head_of t f (tree.fun l s result n ps body))
   head_in l s result n ps body =
-      head_with_in m s (param_kinds t f ps) (result_kind (named_by t f result.base) result.brackets) (params_in ps) (result_in m (named_by t f result.base) result.brackets (named_in result.base))
+      head_with_in m s (param_kinds t f ps) (result_kind (named_by t f result.base) result.brackets) (params_in ps)
+      (result_in m (named_by t f result.base) result.brackets (named_in result.base))
 
   -- and of a constructor
   pub constructor_in : (l : ℕ) (ps : Params) (body : _) → Holds (HeadIn m) (head_of t f (tree.constructor l ps body))
   constructor_in l ps body =
-      holds_map (λ h. HeadIn m h × (h.is_static ≡ false)) (HeadIn m) (λ h is. is.0) (head_with false (param_kinds t f ps) (Some kind.Void))
+      holds_map (λ h. HeadIn m h × (h.is_static ≡ false)) (HeadIn m) (λ h is. is.0)
+      (head_with false (param_kinds t f ps) (Some kind.Void))
       (head_with_in m false (param_kinds t f ps) (Some kind.Void) (params_in ps) tt)

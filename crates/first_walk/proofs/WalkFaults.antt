@@ -19,7 +19,8 @@ module _ (f : ℕ) where
   -- classes and their parents ---------------------------------------------------------------------
 
   class_named_in : (t : Table) (c : tree.Class) → InFile f (with_class_named f t c)
-  class_named_in t (class l is_public n parent ms) = if_in f (is_some (class_named t f n) || is_some (built_in n)) _ _ refl tt
+  class_named_in t (class l is_public n parent ms) = if_in f (is_some (class_named t f n) || is_some (built_in n)) _ _
+      refl tt
 
   item_named_in : (t : Table) (x : Item) → InFile f (with_item_named f t x)
   item_named_in t (class_item c) = class_named_in t c
@@ -48,13 +49,15 @@ module _ (f : ℕ) where
 
   -- functions -------------------------------------------------------------------------------------
 
-  beside_in : (t : Table) (l c : ℕ) (n : Name) (h : Head) (old : Option (Option Head)) → InFile f (enter_beside t f l c n h old)
+  beside_in : (t : Table) (l c : ℕ) (n : Name) (h : Head) (old : Option (Option Head))
+      → InFile f (enter_beside t f l c n h old)
   beside_in t l c n h None = tt
   beside_in t l c n h (Some old) = if_in f (may_override h old) _ _ tt refl
 
   method_head_in : (t : Table) (l c : ℕ) (n : Name) (h : Option Head) → InFile f (enter_method_head t f l c n h)
   method_head_in t l c n None = refl
-  method_head_in t l c n (Some h) = if_in f (is_event_call t c n) _ _ refl (beside_in t l c n h (overridden t (ancestors t c) n))
+  method_head_in t l c n (Some h) = if_in f (is_event_call t c n) _ _ refl
+      (beside_in t l c n h (overridden t (ancestors t c) n))
 
   constructor_head_in : (t : Table) (l c : ℕ) (h : Option Head) → InFile f (enter_constructor_head t f l c h)
   constructor_head_in t l c None = refl
@@ -70,7 +73,8 @@ module _ (f : ℕ) where
       (if_in f (is_member_taken t c n true) _ _ refl (method_head_in t l c n (head_of t f (fun l s result n ps body))))
   method_in t c (constructor l ps body) =
       if_in f (has_unknown t f (constructor l ps body)) _ _ refl
-      (if_in f (is_some (class_of t c).constructor) _ _ refl (constructor_head_in t l c (head_of t f (constructor l ps body))))
+      (if_in f (is_some (class_of t c).constructor) _ _ refl
+      (constructor_head_in t l c (head_of t f (constructor l ps body))))
 
   fun_head_in : (t : Table) (l : ℕ) (n : Name) (h : Option Head) → InFile f (enter_fun_head t f l n h)
   fun_head_in t l n None = refl
@@ -85,15 +89,18 @@ module _ (f : ℕ) where
 
   -- variables and fields --------------------------------------------------------------------------
 
-  of_kind_in : (t : Table) (l : ℕ) (o : Option ℕ) (h : DeclHead) (n : Name) (k : Option Kind) → InFile f (enter_of_kind t f l o h n k)
+  of_kind_in : (t : Table) (l : ℕ) (o : Option ℕ) (h : DeclHead) (n : Name) (k : Option Kind)
+      → InFile f (enter_of_kind t f l o h n k)
   of_kind_in t l o h n None = refl
   of_kind_in t l None h n (Some k) = if_in f h.is_static _ _ refl tt
   of_kind_in t l (Some c) h n (Some k) = if_in f (not h.is_static) _ _ tt (if_in f (may_be_static h k) _ _ tt refl)
 
-  written_in : (t : Table) (l : ℕ) (o : Option ℕ) (h : DeclHead) (x : Declr) (k : Option Kind) → InFile f (enter_written t f l o h x k)
+  written_in : (t : Table) (l : ℕ) (o : Option ℕ) (h : DeclHead) (x : Declr) (k : Option Kind)
+      → InFile f (enter_written t f l o h x k)
   written_in t l o h x k = if_in f (is_misplaced h x k) _ _ refl (of_kind_in t l o h (declr_name x) k)
 
-  based_in : (t : Table) (l : ℕ) (o : Option ℕ) (h : DeclHead) (b : Option Base) (x : Declr) → InFile f (enter_based t f l o h b x)
+  based_in : (t : Table) (l : ℕ) (o : Option ℕ) (h : DeclHead) (b : Option Base) (x : Declr)
+      → InFile f (enter_based t f l o h b x)
   based_in t l o h None x = if_in f (is_taken t f o (declr_name x)) _ _ refl tt
   based_in t l o h (Some b) x =
       if_in f (is_unknown (named_by t f b)) _ _ refl
@@ -121,7 +128,8 @@ module _ (f : ℕ) where
       expr_in t (tree.cast l e k) = expr_in t e
       expr_in t (tree.binary l a p b) = then_in f (enter_expr f o t a) _ (expr_in t a) (λ u. expr_in u b)
       expr_in t (tree.choice l c a b) =
-          then_in f (enter_expr f o t c) _ (expr_in t c) (λ u. then_in f (enter_expr f o u a) _ (expr_in u a) (λ v. expr_in v b))
+          then_in f (enter_expr f o t c) _ (expr_in t c)
+          (λ u. then_in f (enter_expr f o u a) _ (expr_in u a) (λ v. expr_in v b))
       expr_in t (tree.declare l h x) = then_in f (enter_behind f o t x) _ (behind_in t x) (λ u. declared_in u l o h x)
       expr_in t (tree.chuck l a p b) = then_in f (enter_expr f o t a) _ (expr_in t a) (λ u. expr_in u b)
       expr_in t _ = tt
@@ -142,7 +150,8 @@ module _ (f : ℕ) where
     declrs_in : (l : ℕ) (h : DeclHead) (t : Table) (ds : Declrs) → InFile f (enter_declrs f l o h t ds)
     declrs_in l h t no_declrs = tt
     declrs_in l h t (and_declr ds x) =
-        then_in f (enter_declrs f l o h t ds) _ (declrs_in l h t ds) (λ u. then_in f (enter_behind f o u x) _ (behind_in u x) (λ v. declared_in v l o h x))
+        then_in f (enter_declrs f l o h t ds) _ (declrs_in l h t ds)
+        (λ u. then_in f (enter_behind f o u x) _ (behind_in u x) (λ v. declared_in v l o h x))
 
     option_in : (t : Table) (e : Option Expr) → InFile f (enter_option f o t e)
     option_in t None = tt
@@ -173,7 +182,8 @@ module _ (f : ℕ) where
   members_in c t (and_member ms m) = then_in f (enter_members f c t ms) _ (members_in c t ms) (λ u. member_in c u m)
 
   item_in : (t : Table) (x : Item) → InFile f (enter_item f t x)
-  item_in t (class_item (class l is_public n parent ms)) = members_in (own_class t f n) (with_body t (own_class t f n) ms) ms
+  item_in t (class_item (class l is_public n parent ms)) = members_in (own_class t f n)
+      (with_body t (own_class t f n) ms) ms
   item_in t (fun_item g) = fun_in t g
   item_in t (stmt_item s) = stmt_in None t s
 

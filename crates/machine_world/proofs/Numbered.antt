@@ -66,7 +66,8 @@ set_local_meant values i old v is =
 pub ruleset locals = (length-meant, local_within, local_meant, set_local_within, set_local_meant)
 
 -- a static that is replaced
-pub static_meant : (now : ℤ) (bodies : List Body) (values : List Value) (graph : Network) (words : Lcg) (sporks next i : ℕ) (v : Value)
+pub static_meant : (now : ℤ) (bodies : List Body) (values : List Value) (graph : Network) (words : Lcg)
+    (sporks next i : ℕ) (v : Value)
     → slice_get values i ≡ Some v
     → static_of (plain_store now bodies (all_meant values) graph words sporks next) i ≡ Gives (meant v)
 unfolding static_of
@@ -82,7 +83,8 @@ pub set_static_within : (store : Store) (i : ℕ) (d : Datum) → IsFitting (wit
 unfolding static_of with_static
 set_static_within store i d fits = replaced_within store.statics i _ fits
 
-pub set_static_meant : (now : ℤ) (bodies : List Body) (values : List Value) (graph : Network) (words : Lcg) (sporks next i : ℕ) (old v : Value)
+pub set_static_meant : (now : ℤ) (bodies : List Body) (values : List Value) (graph : Network) (words : Lcg)
+    (sporks next i : ℕ) (old v : Value)
     → slice_get values i ≡ Some old
     → with_static (plain_store now bodies (all_meant values) graph words sporks next) i (meant v)
     ≡ Gives (plain_store now bodies (all_meant (slice_set values i v)) graph words sporks next)

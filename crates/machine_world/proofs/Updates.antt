@@ -86,4 +86,5 @@ pub under_object : (store : Store) (i : ℕ) (o : Op2) (old new : Shown) (r : Da
     → IsFitting (of_two old.top.operands (λ e r. updated (field_of store r i) o (with_field store r i) e))
     → IsFitting (of_top new.top.operands (λ e. updated (field_of store r i) o (with_field store r i) e))
 under_object store i o old new r is fits =
-    subst (λ (s : Shown). IsFitting (of_two s.top.operands (λ e r. updated (field_of store r i) o (with_field store r i) e))) is fits
+    subst (λ (s : Shown). IsFitting (of_two s.top.operands
+    (λ e r. updated (field_of store r i) o (with_field store r i) e))) is fits

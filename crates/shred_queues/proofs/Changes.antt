@@ -91,7 +91,8 @@ module _ {P : Type 0} where
       by false stays true same ih =
           let apart : nat_eq e.1 m ≡ false =
           ap (nat_eq e.1) (sym (eqb-true n m same)) ∙ stays in
-          ap (λ b. option_map (λ (e : P × ℕ). e.0) (cond b (Some e) (find (λ e. nat_eq e.1 m) (without n es)))) apart ∙ ih
+          ap (λ b. option_map (λ (e : P × ℕ). e.0) (cond b (Some e) (find (λ e. nat_eq e.1 m) (without n es)))) apart
+          ∙ ih
       by false stays false other ih = at (nat_eq e.1 m)
         where
           at : (b : Bool)

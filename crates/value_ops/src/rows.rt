@@ -120,8 +120,8 @@ fn sizes(n: i64, m: i64) -> Result<(usize, usize), OpEnd>
 
 /// Makes an array of `n` arrays of `m` items, as they begin; the rows are made one after another.
 /// `ArrayLimit` comes exactly where `n` or `m` is below 0, or `n` or their product is above
-/// 1,048,576, and `Memory` only where they aren't. `ObjectLimit` comes where an object was wanted after 2^48; the rows that were made
-/// before it stay.
+/// 1,048,576, and `Memory` only where they aren't. `ObjectLimit` comes where an object was wanted
+/// after 2^48; the rows that were made before it stay.
 #[tactic(auto, using(crate::proofs::Makes::makes))]
 pub fn grid(alloc: Global, heap: &mut Heap, elem: Elem, n: i64, m: i64) -> Result<Ref, OpEnd>
     requires first { heap.old.first ≡ 1 }

@@ -10,18 +10,21 @@ use Rattle.built_forms.proofs.exprs.+expressions.Goals as goal
 pub are_brackets_built-returns-then-not-is_bracket_built : goal.are_brackets_built-returns-then-not-is_bracket_built
 are_brackets_built-returns-then-not-is_bracket_built t c =
     let no : bracket_built c.bracket-item.result ≡ false = search rules in
-    sym (brackets_run no_brackets c.args.all.now ∙ ran_stop one_bracket true c.args.all.now c.loop-bracket.bracket-index true c.bracket-item.result false
+    sym (brackets_run no_brackets c.args.all.now
+    ∙ ran_stop one_bracket true c.args.all.now c.loop-bracket.bracket-index true c.bracket-item.result false
     c.loop-bracket-test.true c.bracket-item.is no (λ y. refl) c.loop-bracket.invariant)
 
 pub are_brackets_built-returns : goal.are_brackets_built-returns
 are_brackets_built-returns t c =
-    sym (brackets_run no_brackets c.args.all.now ∙ ran_all one_bracket true c.args.all.now c.loop-bracket.bracket-index true
+    sym (brackets_run no_brackets c.args.all.now
+    ∙ ran_all one_bracket true c.args.all.now c.loop-bracket.bracket-index true
     c.loop-bracket-test.false c.loop-bracket.invariant)
 
 pub are_exprs_built-returns-then-not-is_expr_built : goal.are_exprs_built-returns-then-not-is_expr_built
 are_exprs_built-returns-then-not-is_expr_built t c =
     let no : expr_built (view_expr c.e-item.result) ≡ false = search rules in
-    sym (exprs_run no_exprs c.args.all.now ∙ ran_stop one_expr true c.args.all.now c.loop-e.e-index true c.e-item.result false
+    sym (exprs_run no_exprs c.args.all.now ∙ ran_stop one_expr true c.args.all.now c.loop-e.e-index true c.e-item.result
+    false
     c.loop-e-test.true c.e-item.is no (λ y. refl) c.loop-e.invariant)
 
 pub are_exprs_built-returns : goal.are_exprs_built-returns
@@ -50,7 +53,9 @@ is_expr_built-returns-in-New t c =
 pub is_expr_built-returns-then-is_expr_built-3 : goal.is_expr_built-returns-then-is_expr_built-3
 is_expr_built-returns-then-is_expr_built-3 t c =
     let l = c.args.e.now.line in
-    let is = ap (λ k. expr_built (view_kind l k)) c.in-Call.is ∙ ap expr_built (view-Call l c.in-Call.callee c.in-Call.arguments) in
+    let is = ap (λ k. expr_built (view_kind l k)) c.in-Call.is
+    ∙ ap expr_built (view-Call l c.in-Call.callee c.in-Call.arguments) in
     let yes : expr_built (view_expr c.in-Call.callee.value) ≡ true = search rules in
-    let all : c.are_exprs_built-then-is_expr_built-3.result ≡ exprs_built (exprs_of no_exprs c.in-Call.arguments) = search rules in
+    let all : c.are_exprs_built-then-is_expr_built-3.result
+    ≡ exprs_built (exprs_of no_exprs c.in-Call.arguments) = search rules in
     all ∙ sym (is ∙ ap (λ b. b && exprs_built (exprs_of no_exprs c.in-Call.arguments)) yes)

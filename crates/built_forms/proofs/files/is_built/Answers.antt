@@ -10,10 +10,14 @@ use Rattle.built_forms.proofs.files.is_built.Goals as goal
 pub returns-then-not-is_item_built : goal.returns-then-not-is_item_built
 returns-then-not-is_item_built c =
     let no : item_built (view_item c.item-item.result) ≡ false = search rules in
-    sym (ap (λ (xs : List Item). is_built (items_of no_items xs)) (sym c.items-item-items.ensures) ∙ items_run no_items c.items-item-items.result.now ∙ ran_stop one_item true c.items-item-items.result.now c.loop-item.item-index true c.item-item.result false
+    sym (ap (λ (xs : List Item). is_built (items_of no_items xs)) (sym c.items-item-items.ensures)
+    ∙ items_run no_items c.items-item-items.result.now
+    ∙ ran_stop one_item true c.items-item-items.result.now c.loop-item.item-index true c.item-item.result false
     c.loop-item-test.true c.item-item.is no (λ y. refl) c.loop-item.invariant)
 
 pub returns : goal.returns
 returns c =
-    sym (ap (λ (xs : List Item). is_built (items_of no_items xs)) (sym c.items-item-items.ensures) ∙ items_run no_items c.items-item-items.result.now ∙ ran_all one_item true c.items-item-items.result.now c.loop-item.item-index true
+    sym (ap (λ (xs : List Item). is_built (items_of no_items xs)) (sym c.items-item-items.ensures)
+    ∙ items_run no_items c.items-item-items.result.now
+    ∙ ran_all one_item true c.items-item-items.result.now c.loop-item.item-index true
     c.loop-item-test.false c.loop-item.invariant)

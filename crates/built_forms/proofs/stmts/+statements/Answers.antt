@@ -10,7 +10,8 @@ use Rattle.built_forms.proofs.stmts.+statements.Goals as goal
 pub are_stmts_built-returns-then-not-is_stmt_built : goal.are_stmts_built-returns-then-not-is_stmt_built
 are_stmts_built-returns-then-not-is_stmt_built t c =
     let no : stmt_built (view_stmt c.s-item.result) ≡ false = search rules in
-    sym (stmts_run no_stmts c.args.all.now ∙ ran_stop one_stmt true c.args.all.now c.loop-s.s-index true c.s-item.result false
+    sym (stmts_run no_stmts c.args.all.now ∙ ran_stop one_stmt true c.args.all.now c.loop-s.s-index true c.s-item.result
+    false
     c.loop-s-test.true c.s-item.is no (λ y. refl) c.loop-s.invariant)
 
 pub are_stmts_built-returns : goal.are_stmts_built-returns

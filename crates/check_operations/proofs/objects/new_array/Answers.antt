@@ -11,5 +11,6 @@ returns c =
     c.in-Some.ensures.items ∙ ap (λ xs. xs ++ c.in-Some.last ∷ []) c.in-Some-pop.ensures.items in
     let some : 0 < length c.pop-2.new.self.items = grind (arith, nat_tests) in
     λ _. ap (λ xs. new_array c.args.table.now c.args.scope.now c.args.line c.args.elem (all_typed xs)) split
-    ∙ many_sizes c.args.table.now c.args.scope.now c.args.line c.args.elem c.pop-2.new.self.items c.in-Some-pop.before c.in-Some.last some
+    ∙ many_sizes c.args.table.now c.args.scope.now c.args.line c.args.elem c.pop-2.new.self.items c.in-Some-pop.before
+    c.in-Some.last some
     ∙ c.mismatch.ensures

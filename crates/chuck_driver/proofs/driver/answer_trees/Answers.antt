@@ -81,7 +81,8 @@ returns-in-Some-clause-ends g c =
     let P : typing.Answer Program → Type 0 = λ found.
     E (answer_of_typing c.args.command c.args.sheet.now names (trees_of (said c.args.trees.now)) found) in
     subst P (sym (checked_said c.args.trees.now (typing.gives program) c.in-Ok.ensures.checked))
-    (subst O (sym (one_unbuilt c.args.command names c.args.trees.now place (string_bytes item.0) c.in-Some.ensures named))
+    (subst O (sym (one_unbuilt c.args.command names c.args.trees.now place (string_bytes item.0) c.in-Some.ensures
+    named))
     (at_edges g.O.Sink g.P.Press c.args.out.now c.refuse_unbuilt.new.out c.args.press.now
     c.refuse_unbuilt.result _ (subst A item.1 c.refuse_unbuilt.ensures)))
 
@@ -99,7 +100,8 @@ returns-in-Some-clause-numbers g c =
     let P : typing.Answer Program → Type 0 = λ found.
     L (answer_of_typing c.args.command c.args.sheet.now names (trees_of (said c.args.trees.now)) found) in
     subst P (sym (checked_said c.args.trees.now (typing.gives program) c.in-Ok.ensures.checked))
-    (subst O (sym (one_unbuilt c.args.command names c.args.trees.now place (string_bytes item.0) c.in-Some.ensures named))
+    (subst O (sym (one_unbuilt c.args.command names c.args.trees.now place (string_bytes item.0) c.in-Some.ensures
+    named))
     (none_left c.refuse_unbuilt.result c.args.tally.now))
 
 pub returns-in-Err-Typing-clause-ends : goal.returns-in-Err-Typing-clause-ends
@@ -110,7 +112,8 @@ returns-in-Err-Typing-clause-ends g c =
     typing.IsFault w → checked (map view_file c.args.trees.now) ≡ typing.fault w in
     let refused : P why = subst P fault.field-0-is fault.ensures.refused in
     refused_types c.args.command c.args.sheet.now (words_of c.args.names.now)
-    (trees_of (said c.args.trees.now)) (checked (trees_of (said c.args.trees.now))) _ _ _ fault.file _ fault.line _ fault.kind _
+    (trees_of (said c.args.trees.now)) (checked (trees_of (said c.args.trees.now))) _ _ _ fault.file _ fault.line _
+    fault.kind _
     fault.file-is fault.line-is fault.kind-is
     (checked_said c.args.trees.now (typing.fault why) (refused (λ memory. absurd (cc memory))))
     (at_edges g.O.Sink g.P.Press c.args.out.now c.refuse_types.new.out c.args.press.now
@@ -125,7 +128,8 @@ returns-in-Err-Typing-clause-numbers g c =
     let refused : P why = subst P fault.field-0-is fault.ensures.refused in
     let L : typing.Answer Program → Type 0 = λ found.
     LeavesTally c.refuse_types.result
-    (answer_of_typing c.args.command c.args.sheet.now (words_of c.args.names.now) (trees_of (said c.args.trees.now)) found).tally
+    (answer_of_typing c.args.command c.args.sheet.now (words_of c.args.names.now) (trees_of (said c.args.trees.now))
+    found).tally
     c.args.tally.now c.args.tally.now in
     subst L (sym (checked_said c.args.trees.now (typing.fault why)
     (refused (λ memory. absurd (cc memory))))) (none_left c.refuse_types.result c.args.tally.now)

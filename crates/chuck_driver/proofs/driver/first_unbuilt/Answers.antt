@@ -10,14 +10,16 @@ returns-then-not-is_built c =
     let unbuilt : is_built (view_file c.index-trees-i.result) ≡ false = search rules in (
       within,
       λ names name at. c.loop-i.invariant names
-          ∙ here_refused c.loop-i.i names name c.args.trees.now c.index-trees-i.result within c.index-trees-i.is unbuilt at,
+          ∙ here_refused c.loop-i.i names name c.args.trees.now c.index-trees-i.result within c.index-trees-i.is unbuilt
+          at,
     )
 
 pub loop-i-preserved : goal.loop-i-preserved
 loop-i-preserved c =
     let within : c.loop-i.i < length c.args.trees.now = search rules in
     let built : is_built (view_file c.index-trees-i.result) ≡ true = search rules in
-    λ names. c.loop-i.invariant names ∙ next_place c.loop-i.i names c.args.trees.now c.index-trees-i.result within c.index-trees-i.is built
+    λ names. c.loop-i.invariant names ∙ next_place c.loop-i.i names c.args.trees.now c.index-trees-i.result within
+    c.index-trees-i.is built
 
 pub returns : goal.returns
 returns c =

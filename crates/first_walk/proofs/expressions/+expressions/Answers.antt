@@ -17,23 +17,36 @@ use Rattle.first_walk.proofs.expressions.+expressions.Goals as goal
 
 pub enter_exprs-returns-in_err-enter_expr-clause-refused : goal.enter_exprs-returns-in_err-enter_expr-clause-refused
 enter_exprs-returns-in_err-enter_expr-clause-refused t c =
-    let stop : (why : Fault) → one_expr c.args.file c.args.owner c.loop-e.table c.e-item.result ≡ refused why → enter_exprs c.args.file c.args.owner c.args.table.now (exprs_of no_exprs c.args.all.now) ≡ refused why =
-    λ why is. exprs_run c.args.file c.args.owner c.args.table.now no_exprs c.args.all.now ∙ ran_fault (one_expr c.args.file c.args.owner) (gives c.args.table.now) c.args.all.now c.loop-e.e-index c.loop-e.table c.e-item.result why c.loop-e-test.true c.e-item.is is c.loop-e.invariant.so_far in
+    let stop : (why : Fault) → one_expr c.args.file c.args.owner c.loop-e.table c.e-item.result ≡ refused why
+    → enter_exprs c.args.file c.args.owner c.args.table.now (exprs_of no_exprs c.args.all.now) ≡ refused why =
+    λ why is. exprs_run c.args.file c.args.owner c.args.table.now no_exprs c.args.all.now
+    ∙ ran_fault (one_expr c.args.file c.args.owner) (gives c.args.table.now) c.args.all.now c.loop-e.e-index
+    c.loop-e.table c.e-item.result why c.loop-e-test.true c.e-item.is is c.loop-e.invariant.so_far in
     search (rules, stop)
 
 pub enter_exprs-returns-clause-entered : goal.enter_exprs-returns-clause-entered
 enter_exprs-returns-clause-entered t c =
-    exprs_run c.args.file c.args.owner c.args.table.now no_exprs c.args.all.now ∙ ran_all (on (one_expr c.args.file c.args.owner)) (gives c.args.table.now) c.args.all.now c.loop-e.e-index (gives c.loop-e.table) c.loop-e-test.false c.loop-e.invariant.so_far
+    exprs_run c.args.file c.args.owner c.args.table.now no_exprs c.args.all.now
+    ∙ ran_all (on (one_expr c.args.file c.args.owner)) (gives c.args.table.now) c.args.all.now c.loop-e.e-index
+    (gives c.loop-e.table) c.loop-e-test.false c.loop-e.invariant.so_far
 
 pub enter_brackets-returns-in_err-enter_bracket-clause-refused : goal.enter_brackets-returns-in_err-enter_bracket-clause-refused
 enter_brackets-returns-in_err-enter_bracket-clause-refused t c =
-    let stop : (why : Fault) → bracket_entered c.args.file c.args.owner c.loop-bracket.table c.bracket-item.result ≡ refused why → enter_brackets c.args.file c.args.owner c.args.table.now (brackets_of no_brackets c.args.all.now) ≡ refused why =
-    λ why is. brackets_run c.args.file c.args.owner c.args.table.now no_brackets c.args.all.now ∙ ran_fault (bracket_entered c.args.file c.args.owner) (gives c.args.table.now) c.args.all.now c.loop-bracket.bracket-index c.loop-bracket.table c.bracket-item.result why c.loop-bracket-test.true c.bracket-item.is is c.loop-bracket.invariant.so_far in
+    let stop : (why : Fault) → bracket_entered c.args.file c.args.owner c.loop-bracket.table c.bracket-item.result
+    ≡ refused why → enter_brackets c.args.file c.args.owner c.args.table.now (brackets_of no_brackets c.args.all.now)
+    ≡ refused why =
+    λ why is. brackets_run c.args.file c.args.owner c.args.table.now no_brackets c.args.all.now
+    ∙ ran_fault (bracket_entered c.args.file c.args.owner) (gives c.args.table.now) c.args.all.now
+    c.loop-bracket.bracket-index c.loop-bracket.table c.bracket-item.result why c.loop-bracket-test.true
+    c.bracket-item.is is c.loop-bracket.invariant.so_far in
     search (rules, stop)
 
 pub enter_brackets-returns-clause-entered : goal.enter_brackets-returns-clause-entered
 enter_brackets-returns-clause-entered t c =
-    brackets_run c.args.file c.args.owner c.args.table.now no_brackets c.args.all.now ∙ ran_all (on (bracket_entered c.args.file c.args.owner)) (gives c.args.table.now) c.args.all.now c.loop-bracket.bracket-index (gives c.loop-bracket.table) c.loop-bracket-test.false c.loop-bracket.invariant.so_far
+    brackets_run c.args.file c.args.owner c.args.table.now no_brackets c.args.all.now
+    ∙ ran_all (on (bracket_entered c.args.file c.args.owner)) (gives c.args.table.now) c.args.all.now
+    c.loop-bracket.bracket-index (gives c.loop-bracket.table) c.loop-bracket-test.false
+    c.loop-bracket.invariant.so_far
 
 pub enter_expr-returns-in-Array-clause-entered : goal.enter_expr-returns-in-Array-clause-entered
 enter_expr-returns-in-Array-clause-entered t c =
@@ -144,7 +157,8 @@ enter_exprs-loop-e-preserved t c =
       own =
           omega (
             arith,
-            expr_grows (declared_by c.args.owner) (counts_declared c.args.owner) c.args.file c.args.owner c.loop-e.table c.enter_expr.new.table (view_expr
+            expr_grows (declared_by c.args.owner) (counts_declared c.args.owner) c.args.file c.args.owner c.loop-e.table
+                c.enter_expr.new.table (view_expr
                 c.e-item.result) c.in_ok-enter_expr.ensures.entered,
             weight_next weights.one_expr c.args.all.now
                 c.loop-e.e-index c.e-item.result c.loop-e-test.true c.e-item.is,
@@ -189,7 +203,8 @@ enter_brackets-loop-bracket-preserved t c =
       own =
           omega (
             arith,
-            bracket_grows (declared_by c.args.owner) (counts_declared c.args.owner) c.args.file c.args.owner c.loop-bracket.table c.enter_bracket.new.table
+            bracket_grows (declared_by c.args.owner) (counts_declared c.args.owner) c.args.file c.args.owner
+                c.loop-bracket.table c.enter_bracket.new.table
                 c.bracket-item.result c.in_ok-enter_bracket.ensures.entered,
             weight_next weights.one_bracket c.args.all.now
                 c.loop-bracket.bracket-index c.bracket-item.result c.loop-bracket-test.true c.bracket-item.is,
@@ -207,7 +222,8 @@ enter_both-enter_expr-requires-2 t c = (
     ),
     omega (
       arith,
-      expr_grows (declared_by c.args.owner) (counts_declared c.args.owner) c.args.file c.args.owner c.args.table.now c.enter_expr.new.table
+      expr_grows (declared_by c.args.owner) (counts_declared c.args.owner) c.args.file c.args.owner c.args.table.now
+          c.enter_expr.new.table
           (view_expr c.args.first.now) c.in_ok-enter_expr.ensures.entered,
     ),
   ),
@@ -224,7 +240,8 @@ enter_call-enter_exprs-requires t c = (
     ),
     omega (
       arith,
-      expr_grows (declared_by c.args.owner) (counts_declared c.args.owner) c.args.file c.args.owner c.args.table.now c.enter_expr.new.table
+      expr_grows (declared_by c.args.owner) (counts_declared c.args.owner) c.args.file c.args.owner c.args.table.now
+          c.enter_expr.new.table
           (view_expr c.args.callee.now) c.in_ok-enter_expr.ensures.entered,
     ),
   ),
@@ -273,7 +290,8 @@ enter_expr-enter_both-requires-in-Cond t c =
     c.in_ok-enter_expr-in-Cond.ensures.entered in
     let declared_more : declared_by c.args.owner c.enter_expr.new.table
     ≤ declared_by c.args.owner c.args.table.now + expr_size test =
-    expr_grows (declared_by c.args.owner) (counts_declared c.args.owner) c.args.file c.args.owner c.args.table.now c.enter_expr.new.table test
+    expr_grows (declared_by c.args.owner) (counts_declared c.args.owner) c.args.file c.args.owner c.args.table.now
+    c.enter_expr.new.table test
     c.in_ok-enter_expr-in-Cond.ensures.entered in
     (search (rules, the_lemmas), (grind (arith, grown), grind (arith, declared_more)))
 
@@ -289,7 +307,8 @@ enter_declaration-enter_declared-requires t c =
       own =
           omega (
             arith,
-            behind_grows (declared_by c.args.owner) (counts_declared c.args.owner) c.args.file c.args.owner c.args.table.now c.enter_behind.new.table
+            behind_grows (declared_by c.args.owner) (counts_declared c.args.owner) c.args.file c.args.owner
+                c.args.table.now c.enter_behind.new.table
                 (view_declr c.args.declarator.now) c.in_ok-enter_behind.ensures.entered,
           );
     }

@@ -17,7 +17,8 @@ enter_declared-requires c =
       own =
           omega (
             arith,
-            behind_grows (declared_by c.args.owner) (counts_declared c.args.owner) c.args.file c.args.owner c.args.table.now c.enter_behind.new.table
+            behind_grows (declared_by c.args.owner) (counts_declared c.args.owner) c.args.file c.args.owner
+                c.args.table.now c.enter_behind.new.table
                 (view_declr c.args.declarator.now) c.in_ok-enter_behind.ensures.entered,
           );
     }

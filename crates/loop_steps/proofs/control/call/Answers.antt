@@ -44,14 +44,16 @@ returns-in-Ok c =
     let spent = (c.if-not-spend.ensures {u = tt}).spent in
     let entered = c.in-Ok.ensures {u = tt} in
     let kinds = c.items.ensures in
-    let is : c.enter.new.self ≡ entered_at (at_place c.spend.new.self (c.spend.new.self.top.place + 1)) c.args.fun fn.params fn.locals =
+    let is : c.enter.new.self ≡ entered_at (at_place c.spend.new.self (c.spend.new.self.top.place
+    + 1)) c.args.fun fn.params fn.locals =
     grind (arith, entered.new, kinds, spent, c.requires.here) in
     record {
       carries = λ world acts. record {
         follows = λ store stands. record {
           store = store;
           stands = stands;
-          so = subst (λ s. effect_over c.args.code.now (record c.args.at.now { instr = Call c.args.fun }) (scene s world acts) store
+          so = subst (λ s. effect_over c.args.code.now (record c.args.at.now { instr = Call c.args.fun })
+              (scene s world acts) store
               ≡ Next (frames_of (shown c.enter.new.self)) (state_of c.enter.new.self store acts)) (sym spent)
               (calls_begin c.args.code.now c.args.at.now c.args.fun fn c.spend.new.self world acts store
               c.fun_at-callee.ensures (takes_then items) c.enter.new.self entered.free is);
@@ -79,9 +81,11 @@ returns-in-Err-CallDepth c =
         follows = λ store stands. record {
           store = store;
           stands = stands;
-          so = subst (λ s. effect_over c.args.code.now (record c.args.at.now { instr = Call c.args.fun }) (scene s world acts) store
+          so = subst (λ s. effect_over c.args.code.now (record c.args.at.now { instr = Call c.args.fun })
+              (scene s world acts) store
               ≡ Breaks CallDepth c.args.at.now.place (state_of c.enter.new.self store acts)) (sym spent)
-              (subst (λ s. effect_over c.args.code.now (record c.args.at.now { instr = Call c.args.fun }) (scene (record c.spend.new.self { turns = suc c.spend.new.self.turns }) world acts) store
+              (subst (λ s. effect_over c.args.code.now (record c.args.at.now { instr = Call c.args.fun })
+              (scene (record c.spend.new.self { turns = suc c.spend.new.self.turns }) world acts) store
               ≡ Breaks CallDepth c.args.at.now.place (state_of s store acts)) (sym refused.same)
               (calls_break c.args.code.now c.args.at.now c.args.fun fn c.spend.new.self world acts store
               c.fun_at-callee.ensures (takes_then items) many));

@@ -32,8 +32,10 @@ operand-requires c =
     let s = state_over c.requires.can.store now in
     let calls = calling c.args.at.now.place (shown now.shred) s in
     let good = good_as _ _ now (Virtual c.args.slot c.args.n) c.requires.is c.requires.can in
-    let some = sends_some c.args.code.now c.args.at.now.place c.args.slot (operands_of now.shred) s calls c.args.n good in
-    let within = sends_within c.args.code.now c.args.at.now.place c.args.slot (operands_of now.shred) s calls c.args.n good in
+    let some = sends_some c.args.code.now c.args.at.now.place c.args.slot (operands_of now.shred) s calls c.args.n
+    good in
+    let within = sends_within c.args.code.now c.args.at.now.place c.args.slot (operands_of now.shred) s calls c.args.n
+    good in
     omega (arith, some, within, length-meant c.args.shred.now.top.operands)
 
 -- what a call of the receiver finds
@@ -79,7 +81,8 @@ begins c store stands =
     let can = c.requires.can in
     let instr = Virtual c.args.slot c.args.n in
     let r = meant c.operand.result.now in
-    let good = each_so _ (λ store. IsGood (effect_in code instr c.args.at.now.place (shown now.shred) (state_over store now)))
+    let good = each_so _ (λ store. IsGood (effect_in code instr c.args.at.now.place (shown now.shred)
+    (state_over store now)))
     (record { store = can.store; stands = can.stands; so = good_as _ _ now instr c.requires.is can })
     store stands in
     let found = subst (λ r. method_of code.classes store.objects r c.args.slot ≡ Gives c.in-Ok.fun)
@@ -118,7 +121,8 @@ returns-in-Err c =
           (record { number = refl; parent = refl; last = refl }) refl refl refl refl
           (breaks_here code at c.in-Err.trap now now.world refl (λ store stands.
           let s = state_over store now in
-          let good = each_so _ (λ store. IsGood (effect_in code instr at.place (shown now.shred) (state_over store now)))
+          let good = each_so _ (λ store. IsGood (effect_in code instr at.place (shown now.shred)
+          (state_over store now)))
           (record { store = can.store; stands = can.stands; so = good_as _ _ now instr c.requires.is can })
           store stands in
           let null = subst (λ r. method_of code.classes store.objects r c.args.slot ≡ Fails c.in-Err.trap)

@@ -51,7 +51,8 @@ there c =
 
 -- what it leads to
 leads : (c : After-step_in-at) (t : State) (new : Standing) → new.number ≡ c.line.shred.number
-    → effect_in c.args.code.now c.step_in-at.result.now.instr c.step_in-at.result.now.place (shown (now_of c)) (state_now c t)
+    → effect_in c.args.code.now c.step_in-at.result.now.instr c.step_in-at.result.now.place (shown (now_of c))
+    (state_now c t)
     ≡ Next (frames_of (shown new)) (state_with t new)
     → LeadsTo c.args.code.now (now_of c) (state_now c t) new (state_with t new)
 unfolding shown
@@ -137,7 +138,8 @@ returns-in-JumpZero-clause-gone c = λ t over.
     (state_with t c.args.shred.now)
     c.counted_to.result (c.place_where.result - c.place_where.result) c.jump.new.self
     (state_with t c.jump.new.self)) (to_z-of_z w64 c.args.first (search rules))
-    (counted_on c.args.code.now c.parts-parts.ensures.verified _ _ _ _ _ _ _ _ _ _ (omega (arith, c.line.invariant.from, c.counted_to.ensures))
+    (counted_on c.args.code.now c.parts-parts.ensures.verified _ _ _ _ _ _ _ _ _ _
+    (omega (arith, c.line.invariant.from, c.counted_to.ensures))
     (gone_on here t (over_kept here t over) _ (jumped_on here t _ c.in-JumpZero.to c.is_zero.result c.in-JumpZero.is
     c.is_zero.ensures goes)))
 
@@ -199,7 +201,8 @@ line-preserved-in-Op2-1 c =
       from = omega (arith, before.from);
       over = c.line.invariant.over;
       gone = λ t over. gone_on (goal.at.In-Some here).After-step_in-at t over _ (taken_on here t);
-      fun = same_fun _ _ c.args.shred.now.top.fun c.line.moved (ap (λ (s : Standing). s.top.fun) (sym (taken.1))) before.fun;
+      fun = same_fun _ _ c.args.shred.now.top.fun c.line.moved (ap (λ (s : Standing). s.top.fun) (sym (taken.1)))
+          before.fun;
       same = record {
         number = ap (λ (s : Standing). s.number) (sym (taken.1)) ∙ before.same.number;
         parent = ap (λ (s : Standing). s.parent) (sym (taken.1)) ∙ before.same.parent;
@@ -286,7 +289,8 @@ line-smaller-in-Some-operated_at c =
     let mid = gone_on (both here) t c.line.invariant.over.1 (mid_of here) (first_on here t) in
     omega (
       arith,
-      one_lower c.args.code.now _ _ _ _ (c.line.invariant.gone t c.line.invariant.over.1).over (first_on here t) c.parts-parts.ensures.verified,
+      one_lower c.args.code.now _ _ _ _ (c.line.invariant.gone t c.line.invariant.over.1).over (first_on here t)
+          c.parts-parts.ensures.verified,
       one_lower c.args.code.now _ _ _ _ mid.over (second_on here t) c.parts-parts.ensures.verified,
     )
 
@@ -299,7 +303,8 @@ line-preserved-in-Some-operated_at c =
       steps = before.steps;
       from = omega (arith, before.from);
       over = c.line.invariant.over;
-      gone = λ t over. one_on c.args.code.now c.parts-parts.ensures.verified _ _ _ _ _ _ _ (mid_of here) _ (state_now (both here) t) _
+      gone = λ t over. one_on c.args.code.now c.parts-parts.ensures.verified _ _ _ _ _ _ _ (mid_of here) _
+          (state_now (both here) t) _
           (omega (arith, before.from))
           (gone_on (both here) t over (mid_of here) (first_on here t)) (second_on here t);
       fun = before.fun;
@@ -316,7 +321,8 @@ set_local-requires c =
     set_there c.line.shred c.in-SetLocal.i (AnInt (held here))
     (local_fits code c.in-SetLocal.i at.place c.line.shred (state_now here t) (held here) c.line.here
     (subst (λ instr. IsGood (effect_in code instr at.place (shown (now_of here)) (state_now here t))) c.in-SetLocal.is
-    (good_there code (now_of here) (state_now here t) at (there here) (c.line.invariant.gone t c.line.invariant.over.1).over)))
+    (good_there code (now_of here) (state_now here t) at (there here)
+    (c.line.invariant.gone t c.line.invariant.over.1).over)))
 
 -- the int that was held is an operand beneath the one that is put
 put_over : (c : After-step_in-at) (t : State) (new : Standing) (n m : ℤ)
@@ -381,7 +387,8 @@ operated-requires c =
     let at = c.step_in-at.result.now in
     operands_fit code c.in-Op2.operator at.place c.line.shred (state_now here t) (held here) c.line.here
     (subst (λ instr. IsGood (effect_in code instr at.place (shown (now_of here)) (state_now here t))) c.in-Op2.is
-    (good_there code (now_of here) (state_now here t) at (there here) (c.line.invariant.gone t c.line.invariant.over.1).over))
+    (good_there code (now_of here) (state_now here t) at (there here)
+    (c.line.invariant.gone t c.line.invariant.over.1).over))
 
 pub int_units-samples-requires-clause-fitting : goal.int_units-samples-requires-clause-fitting
 unfolding shown
@@ -396,7 +403,8 @@ int_units-samples-requires-clause-fitting c =
     (units_fit code n d at.place c.line.shred (state_now here t) (held here) c.line.here
     (subst (λ instr. IsGood (effect_in code instr at.place (shown (now_of here)) (state_now here t)))
     c.in-UnitInt.is
-    (good_there code (now_of here) (state_now here t) at (there here) (c.line.invariant.gone t c.line.invariant.over.1).over)))
+    (good_there code (now_of here) (state_now here t) at (there here)
+    (c.line.invariant.gone t c.line.invariant.over.1).over)))
 
 pub int_units-samples-requires-clause-divisor : goal.int_units-samples-requires-clause-divisor
 unfolding shown
@@ -421,7 +429,8 @@ units_on c t new n d v is gives made =
     leads c t new (ap (λ (s : Standing). s.number) made)
     (ap (λ instr. effect_in code instr place (shown (now_of c)) (state_now c t)) is
     ∙ counts_units code n d place c.line.shred new (state_now c t) (held c) c.line.here v gives made
-    ∙ ap (λ turns. Next (frames_of (shown new)) (record t { turns = turns })) (sym (ap (λ (s : Standing). s.turns) made)))
+    ∙ ap (λ turns. Next (frames_of (shown new)) (record t { turns = turns }))
+    (sym (ap (λ (s : Standing). s.turns) made)))
 
 pub returns-in-UnitInt-clause-gone : goal.returns-in-UnitInt-clause-gone
 unfolding shown
@@ -460,7 +469,8 @@ set_on c t new i is set kept =
     leads c t next (ap (λ (s : Standing). s.number) kept)
     (ap (λ instr. effect_in code instr place (shown (now_of c)) (state_now c t)) is
     ∙ sets code i place c.line.shred new (state_now c t) (held c) c.line.here set kept
-    ∙ ap (λ turns. Next (frames_of (shown next)) (record t { turns = turns })) (sym (ap (λ (s : Standing). s.turns) kept)))
+    ∙ ap (λ turns. Next (frames_of (shown next)) (record t { turns = turns }))
+    (sym (ap (λ (s : Standing). s.turns) kept)))
 
 pub line-smaller-in-SetLocal-1 : goal.line-smaller-in-SetLocal-1
 unfolding shown
@@ -512,7 +522,8 @@ updated_on c t new i o n m is has kept same =
     (ap (λ instr. effect_in code instr place (shown (now_of c)) (state_now c t)) is
     ∙ updates code i o place c.line.shred new (state_now c t) (held c) n c.line.here has kept
     ∙ ap (λ n. Next (frames_of (shown (holding new n (c.line.here + 1)))) (state_now c t)) same
-    ∙ ap (λ turns. Next (frames_of (shown next)) (record t { turns = turns })) (sym (ap (λ (s : Standing). s.turns) kept)))
+    ∙ ap (λ turns. Next (frames_of (shown next)) (record t { turns = turns }))
+    (sym (ap (λ (s : Standing). s.turns) kept)))
 
 pub added-requires : goal.added-requires
 unfolding shown
@@ -524,7 +535,8 @@ added-requires c =
     sum_fits code c.in-OpLocal.i c.in-OpLocal.operator at.place c.line.shred (state_now here t)
     (held here) c.line.here
     (subst (λ instr. IsGood (effect_in code instr at.place (shown (now_of here)) (state_now here t))) c.in-OpLocal.is
-    (good_there code (now_of here) (state_now here t) at (there here) (c.line.invariant.gone t c.line.invariant.over.1).over))
+    (good_there code (now_of here) (state_now here t) at (there here)
+    (c.line.invariant.gone t c.line.invariant.over.1).over))
 
 -- the same of the context that has it
 sum_on : (c : In-Some-added) (t : State) → let here = (goal.at.In-Some-added c).After-step_in-at in
@@ -570,7 +582,8 @@ line-preserved-in-OpLocal-1 c =
     }
 
 -- where a return goes, of the context that has it
-return_on : (c : After-counted_to-in-Return) (t : State) → let here = (goal.at.After-counted_to-in-Return c).After-step_in-at in
+return_on : (c : After-counted_to-in-Return) (t : State)
+    → let here = (goal.at.After-counted_to-in-Return c).After-step_in-at in
     LeadsTo c.args.code.now (now_of here) (state_now here t)
     (holding c.leave_function.new.shred (held here) c.leave_function.new.shred.top.place)
     (state_with t c.leave_function.new.shred)
@@ -642,7 +655,8 @@ returns-in-Drop-clause-gone c = λ t over.
     (state_with t c.args.shred.now)
     c.line.begun (c.line.here + 1 - c.line.from) new
     (state_with t c.jump-in-Drop.new.self)) (to_z-of_z w64 c.args.first (search rules))
-    (gone_on here t (over_kept here t over) new (leads here t new (ap (λ (s : Standing). s.number) (c.jump-in-Drop.ensures))
+    (gone_on here t (over_kept here t over) new (leads here t new
+    (ap (λ (s : Standing). s.number) (c.jump-in-Drop.ensures))
     (ap (λ instr. effect_in code instr place (shown (now_of here)) (state_now here t)) c.in-Drop.is
     ∙ drops code place s (state_now here t) (held here) c.line.here
     ∙ ap (λ (s : Standing). Next (frames_of (shown s)) (state_with t s)) (sym (c.jump-in-Drop.ensures)))))

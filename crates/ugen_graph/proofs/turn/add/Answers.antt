@@ -13,5 +13,6 @@ returns-in-Some-with-clause-added c = λ size cs ns are right.
 pub returns-in-None-clause-added : goal.returns-in-None-clause-added
 returns-in-None-clause-added c = λ size cs ns are right.
     subst (AreTurns size cs (ns ++ nodes_of c.args.turn)) (sym (c.push_reserved-in-None-2.ensures.items
-    ∙ ap (λ (ts : List Turn). ts ++ c.args.turn ∷ []) (c.push_reserved-in-None.ensures.items ∙ sym c.in-Some.ensures.items)))
+    ∙ ap (λ (ts : List Turn). ts ++ c.args.turn ∷ [])
+    (c.push_reserved-in-None.ensures.items ∙ sym c.in-Some.ensures.items)))
     (turn_added size cs ns c.args.turns.now.items c.args.turn are right)

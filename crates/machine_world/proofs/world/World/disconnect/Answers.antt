@@ -48,7 +48,8 @@ node_of-requires-2-clause-unit c =
     subst (λ d. IsFitting (place_at (objects_of c.self.inside.heap) d)) (ap meant c.reference.ensures)
     (unit_there _ _ c.self.view_is to
     (disconnect_second store from to c.in_ok-from.from
-    (place_there _ _ c.self.view_is from (Gives c.in_ok-from.from) c.in_ok-from.ensures.place) (of_some _ _ c.requires)))
+    (place_there _ _ c.self.view_is from (Gives c.in_ok-from.from) c.in_ok-from.ensures.place)
+    (of_some _ _ c.requires)))
 
 pub returns-in_err-to-clause-null : goal.returns-in_err-to-clause-null
 returns-in_err-to-clause-null c =
@@ -70,7 +71,8 @@ returns-clause-disconnected c =
     (let there = subst (λ d. place_at (objects_of c.self.inside.heap) d ≡ Gives c.in_ok-to.to)
     (sym (ap meant c.reference.ensures)) c.in_ok-to.ensures.place in
     disconnect_made _ _ c.self.view_is c.disconnect.new.self (ARef c.args.from.serial) (meant c.args.to.now)
-    c.in_ok-from.from c.in_ok-to.to c.in_ok-from.ensures.place there (of_some _ _ c.requires) c.disconnect.ensures.links)
+    c.in_ok-from.from c.in_ok-to.to c.in_ok-from.ensures.place there (of_some _ _ c.requires)
+    c.disconnect.ensures.links)
 
 pub invariant_of-self : goal.invariant_of-self
 invariant_of-self c = (

@@ -27,5 +27,6 @@ param-requires c =
 
 pub returns-clause-found : goal.returns-clause-found
 returns-clause-found c =
-    to_each _ _ (is_read _ _ c.self.view_is (ARef c.args.at.serial) c.in_ok-node.node c.args.p c.in_ok-node.ensures.place
+    to_each _ _ (is_read _ _ c.self.view_is (ARef c.args.at.serial) c.in_ok-node.node c.args.p
+    c.in_ok-node.ensures.place
     (meant c.param.result) (of_some _ _ c.requires) c.param.ensures)

@@ -30,7 +30,12 @@ set-requires c =
     let it = taken heap store.objects c.args.at shown c.if-at-eq0.false
     (set_refers store (ARef c.args.at.serial) c.args.i (meant c.args.v) (of_some _ _ c.requires)) in
     let within : c.args.i < length it.fields =
-    omega (arith, set_within store (ARef c.args.at.serial) c.args.i (meant c.args.v) _ (is_referred heap store.objects c.args.at shown it) (of_some _ _ c.requires), length-meant it.fields) in
+    omega (
+      arith,
+      set_within store (ARef c.args.at.serial) c.args.i (meant c.args.v) _
+          (is_referred heap store.objects c.args.at shown it) (of_some _ _ c.requires),
+      length-meant it.fields,
+    ) in
     subst (λ o. IsSomeAnd o (λ body. c.args.i < length (values_of body)))
     (sym (held heap c.args.at c.self.invariant.1 it)) within
 
@@ -43,7 +48,9 @@ invariant_of-self c =
     (set_refers store (ARef c.args.at.serial) c.args.i (meant c.args.v) (of_some _ _ c.requires)) in
     let is = held heap c.args.at c.self.invariant.1 it in
     let fields = slice_set it.fields c.args.i c.args.v in
-    let new = subst (λ o. IfSome o (λ body. c.set.new.self ≡ with_body heap c.args.at (with_values body (slice_set (values_of body) c.args.i c.args.v)))) is c.set.ensures.set in
+    let new = subst (λ o. IfSome o (λ body. c.set.new.self
+    ≡ with_body heap c.args.at (with_values body (slice_set (values_of body) c.args.i c.args.v)))) is
+    c.set.ensures.set in
     let units = units_put heap c.args.at (Instance it.class it.fields) fields is in (
       c.self.invariant.0,
       ap (λ (h : Objects). h.first) new ∙ c.self.invariant.1,
@@ -64,9 +71,15 @@ returns-clause-set c =
     let it = taken heap store.objects c.args.at shown c.if-at-eq0.false
     (set_refers store (ARef c.args.at.serial) c.args.i (meant c.args.v) (of_some _ _ c.requires)) in
     let is = held heap c.args.at c.self.invariant.1 it in
-    let new = subst (λ o. IfSome o (λ body. c.set.new.self ≡ with_body heap c.args.at (with_values body (slice_set (values_of body) c.args.i c.args.v)))) is c.set.ensures.set in
-    let old = subst (λ o. IfSome o (λ body. slice_get (values_of body) c.args.i ≡ Some c.set.result)) is c.set.ensures.old in
-    let with_these = λ (h : Objects). Gives (plain_store inside.time h.bodies (all_meant inside.statics) inside.graph inside.words inside.sporks inside.next_shred) in
-    subst (λ w. with_field (store_of w) (ARef c.args.at.serial) c.args.i (meant c.args.v) ≡ with_these c.set.new.self) c.self.view_is
-    (replaced_so inside.time heap (all_meant inside.statics) inside.graph inside.words inside.sporks inside.next_shred c.args.at it c.args.i c.set.result c.args.v c.self.invariant.1 old
+    let new = subst (λ o. IfSome o (λ body. c.set.new.self
+    ≡ with_body heap c.args.at (with_values body (slice_set (values_of body) c.args.i c.args.v)))) is
+    c.set.ensures.set in
+    let old = subst (λ o. IfSome o (λ body. slice_get (values_of body) c.args.i ≡ Some c.set.result)) is
+    c.set.ensures.old in
+    let with_these = λ (h : Objects). Gives (plain_store inside.time h.bodies (all_meant inside.statics) inside.graph
+    inside.words inside.sporks inside.next_shred) in
+    subst (λ w. with_field (store_of w) (ARef c.args.at.serial) c.args.i (meant c.args.v) ≡ with_these c.set.new.self)
+    c.self.view_is
+    (replaced_so inside.time heap (all_meant inside.statics) inside.graph inside.words inside.sporks inside.next_shred
+    c.args.at it c.args.i c.set.result c.args.v c.self.invariant.1 old
     ∙ ap with_these (sym new)))

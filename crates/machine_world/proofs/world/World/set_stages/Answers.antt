@@ -17,7 +17,8 @@ use Rattle.machine_world.proofs.world.World.set_stages.Goals as goal
 pub node_of-requires-clause-unit : goal.node_of-requires-clause-unit
 node_of-requires-clause-unit c =
     unit_there _ _ c.self.view_is (ARef c.args.at.serial)
-    (change_first (staged c.args.attack c.args.decay c.args.sustain c.args.release) (store_of c.args.self.now) (ARef c.args.at.serial) (of_some _ _ c.requires))
+    (change_first (staged c.args.attack c.args.decay c.args.sustain c.args.release) (store_of c.args.self.now)
+    (ARef c.args.at.serial) (of_some _ _ c.requires))
 
 pub returns-in_err-node-clause-null : goal.returns-in_err-node-clause-null
 returns-in_err-node-clause-null c =
@@ -25,7 +26,8 @@ returns-in_err-node-clause-null c =
     let trap = c.in_err-node.field-0.0 in
     rw (p.1, p.2)
     (to_each _ _
-    (change_null (staged c.args.attack c.args.decay c.args.sustain c.args.release) (store_of c.args.self.now) (ARef c.args.at.serial) trap
+    (change_null (staged c.args.attack c.args.decay c.args.sustain c.args.release) (store_of c.args.self.now)
+    (ARef c.args.at.serial) trap
     (place_there _ _ c.self.view_is (ARef c.args.at.serial) (Fails trap) (c.in_err-node.ensures {u = tt}).place)))
 
 pub adsr-requires : goal.adsr-requires
@@ -36,7 +38,8 @@ adsr-requires c =
       to_z-of_z w64 c.args.release c.ranges.release,
     )
     (can_change _ _ c.self.view_is (ARef c.args.at.serial) c.in_ok-node.node
-    (staged c.args.attack c.args.decay c.args.sustain c.args.release) c.in_ok-node.ensures.place (of_some _ _ c.requires))
+    (staged c.args.attack c.args.decay c.args.sustain c.args.release) c.in_ok-node.ensures.place
+    (of_some _ _ c.requires))
 
 pub returns-clause-staged : goal.returns-clause-staged
 returns-clause-staged c =
