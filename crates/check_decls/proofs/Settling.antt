@@ -1,27 +1,54 @@
 -- Only the statements of a file settle types: functions and classes give back what was settled.
-use Rattle.std.proofs.Common.{◌≡◌, ℕ, ◌+◌, List, length, Some, refl, subst}
+use Rattle.std.proofs.Common.{◌≡◌, ℕ, ◌+◌, Bool, true, false, List, length, Option, Some, None}
+use Rattle.std.proofs.Common.{refl, ap, subst}
 use Rattle.ck_values.specs.declared.kind.Kind.{Kind}
 use Rattle.ck_syntax.specs.Tree as tree
-use Rattle.ck_syntax.specs.Tree.{Stmts, Members, no_members, and_member, stmt_member, fun_member}
+use Rattle.ck_syntax.specs.Tree.{Params, no_params, and_param, Stmts}
+use Rattle.ck_syntax.specs.Tree.{Members, no_members, and_member, stmt_member, fun_member}
 use Rattle.ck_typed.specs.Tree.{Fun}
 use Rattle.type_table.specs.Answer.{Answer, gives}
-use Rattle.type_table.specs.Table.{Table}
-use Rattle.check_scope.specs.Scope.{Scope, with_block}
+use Rattle.type_table.specs.Table.{Table, with_settled}
+use Rattle.check_scope.specs.Scope.{Scope, is_declared, with_block}
 use Rattle.expr_laws.proofs.FineDeclarations.{anything}
 use Rattle.expr_laws.proofs.Growing.{Keeps, keeps_refl, keeps_trans}
-use Rattle.expr_laws.proofs.Oks.{ok_then}
+use Rattle.expr_laws.proofs.Oks.{ok_then, ok_if}
 use Rattle.expr_laws.proofs.Premises.{Ok}
+use Rattle.first_walk.specs.Room.{entries}
 use Rattle.program_laws.specs.declared.surroundings.Surroundings.{Surroundings}
-use Rattle.program_laws.specs.Programs.{Walked, in_no_fun, fun_typed, and_fun, settled_by}
+use Rattle.program_laws.specs.Programs.{fun_scope, with_params, Walked, in_no_fun, fun_typed}
+use Rattle.program_laws.specs.Programs.{and_fun, settled_by}
 use Rattle.program_laws.specs.Programs.{and_member_typed, members_typed}
 use Rattle.program_laws.specs.Statements.{Stated, AllStated, and_stated, statement, statements}
 use Rattle.program_laws.proofs.FineStatements.{nothing_settles}
 use Rattle.program_laws.proofs.Matching.{class_scope}
+use Rattle.program_laws.proofs.SettledTables.{settled_length}
 use Rattle.program_laws.proofs.StatementsGrow.{statement_keeps, statements_keep}
 
 -- what is found is so
 found : {A : Type 0} (P : A → Type 0) (a : Answer A) (x : A) → a ≡ gives x → Ok P a → P x
 found P a x is ok = subst (Ok P) is ok
+
+-- parameters
+params_stay : (types : List Kind) (s : Scope) (l : ℕ) (ps : Params)
+    → Ok (λ u. u.settled ≡ s.settled) (with_params types s l ps)
+params_stay types s l no_params = refl
+params_stay types s l (and_param ps p) =
+    ok_then (λ u. u.settled ≡ s.settled) (λ u. u.settled ≡ s.settled) (with_params types s l ps) _
+    (params_stay types s l ps) (λ u same.
+    ok_if (λ v. v.settled ≡ s.settled) (is_declared u p.name) _ _ (λ is. tt) (λ is. same))
+
+pub params_settle : (types : List Kind) (s u : Scope) (l : ℕ) (ps : Params)
+    → with_params types s l ps ≡ gives u → u.settled ≡ s.settled
+params_settle types s u l ps is =
+    found (λ v. v.settled ≡ s.settled) (with_params types s l ps) u is (params_stay types s l ps)
+
+-- a function begins with what was settled before
+pub scope_settles : (file : ℕ) (class : Option ℕ) (f : ℕ) (is_static : Bool)
+    (settled : List (ℕ × Kind)) → (fun_scope file class f is_static settled).settled ≡ settled
+scope_settles file None f true settled = refl
+scope_settles file None f false settled = refl
+scope_settles file (Some c) f true settled = refl
+scope_settles file (Some c) f false settled = refl
 
 module _ (t : Table) where
   -- the body of a function
@@ -66,3 +93,10 @@ module _ (t : Table) where
         let keeps : Keeps t (class_scope file c settled) w.stated.scope =
         found InClass (members_typed t file c first settled ms) w is (members_keep ms) in
         keeps.2 refl
+
+-- what was settled stands in the table, which has no more entries for it
+pub settled_entries : (t : Table) (settled : List (ℕ × Kind))
+    → entries (with_settled t settled) ≡ entries t
+settled_entries t settled =
+    ap (λ n. length t.classes + length t.parents + length t.funs + n)
+    (settled_length t.statics settled)

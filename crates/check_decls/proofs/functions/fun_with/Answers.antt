@@ -8,7 +8,6 @@ use Rattle.check_decls.proofs.functions.fun_with.Goals as goal
 pub returns-clause-settled : goal.returns-clause-settled
 returns-clause-settled c =
     c.lend_settled-settled.ensures.lent
-    ∙ body_settles c.args.table.now _ c.args.scope c.enter.new.scope
-    (stmts_of no_stmts c.args.body.now)
-    (all_stated c.in_ok-typed.typed.items c.statements.new.scope) c.in_ok-enter.ensures.entered
-    c.in_ok-typed.ensures.stated
+    ∙ body_settles c.args.table.now _ c.args.scope c.enter.new.self
+    (stmts_of no_stmts c.args.body.now) (all_stated c.in_ok-typed.typed c.statements.new.scope)
+    c.in_ok-enter.ensures.entered c.in_ok-typed.ensures.stated

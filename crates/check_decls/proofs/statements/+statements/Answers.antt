@@ -1,13 +1,18 @@
-use Rattle.std.proofs.Common.{rules, ◌≡◌, ◌∙◌, arith}
+use Rattle.std.proofs.Common.{rules, ◌≡◌, ◌∙◌, ap, sym, subst, arith}
+use Rattle.ck_syntax.specs.declared.stmt.LoopItem.{LoopItem}
+use Rattle.ck_syntax.specs.declared.stmt.Stmt.{Stmt}
 use Rattle.ck_syntax.specs.declared.stmt.StmtKind.TheViews.{the_lemmas}
 use Rattle.ck_syntax.specs.Tree.{no_stmts}
 use Rattle.ck_syntax.specs.View.{stmts_of}
-use Rattle.type_table.specs.Answer.{Fault, gives, refused}
+use Rattle.type_table.specs.Answer.{Answer, Fault, gives, refused}
 use Rattle.type_table.proofs.Walks.{on, ran_more, ran_all, ran_fault}
 use Rattle.type_table.proofs.Weights.{weight_next}
-use Rattle.program_laws.specs.Statements.{none_stated, statements}
+use Rattle.program_laws.specs.Statements.{Stated, none_stated, statements}
+use Rattle.check_decls.specs.Outcomes.{IsRefused}
+use Rattle.check_decls.specs.StatementTyping.{for_each}
 use Rattle.check_decls.specs.View.{all_stated}
-use Rattle.check_decls.proofs.StatementWalks.{block_is, block_size, each_is, one_statement, one_more_statement, statements_run}
+use Rattle.check_decls.proofs.StatementWalks.{block_is, block_size, each_is, one_statement}
+use Rattle.check_decls.proofs.StatementWalks.{one_more_statement, statements_run}
 use Rattle.check_decls.proofs.Weights.{one_stmt, stmts_weigh}
 use Rattle.check_decls.proofs.statements.+statements.Goals as goal
 
@@ -25,9 +30,14 @@ statement-returns-in-Block-clause-refused t c =
 
 pub statement-returns-in-ForEach-clause-refused : goal.statement-returns-in-ForEach-clause-refused
 statement-returns-in-ForEach-clause-refused t c =
+    let each : LoopItem → Stmt → Answer Stated =
+    λ item body. for_each c.args.table.now c.args.around c.args.scope.now c.args.s.now.line item
+    c.in-ForEach.array body in
     let is =
-    each_is c.args.table.now c.args.around c.args.scope.now c.args.s.now _ _ _ c.in-ForEach.is in
-    search (rules, is)
+    each_is c.args.table.now c.args.around c.args.scope.now c.args.s.now _ _ _ c.in-ForEach.is
+    ∙ ap (λ item. each item c.in-ForEach.body.value) (sym c.deref-in-ForEach.ensures)
+    ∙ ap (each c.deref-in-ForEach.result.now) (sym c.deref-in-ForEach-2.ensures) in
+    subst (λ a. IsRefused c.for_each.result a) (sym is) c.for_each.ensures.refused
 
 pub statements-returns-in_err-statement-clause-refused :
     goal.statements-returns-in_err-statement-clause-refused

@@ -7,6 +7,7 @@ use Rattle.type_table.specs.Table.{Table}
 use Rattle.first_walk.specs.Room.{entries, AreNumbered}
 use Rattle.first_walk.proofs.Measures.{begun_more, begun_main, counts_entries, counts_main, main_of}
 use Rattle.first_walk.proofs.RoomFacts.{file_grows}
+use Rattle.check_decls.proofs.Settling.{settled_entries}
 use Rattle.check_decls.proofs.programs.Checked.add_file.Goals as goal
 
 pub enter_file-requires : goal.enter_file-requires
@@ -70,12 +71,14 @@ items_typed-requires c =
 
 pub returns-clause-grown : goal.returns-clause-grown
 returns-clause-grown c =
-    let same = c.deref_mut.ensures.value in
     omega (
       arith,
       c.requires.short,
-      ap entries same,
+      ap entries c.deref_mut.ensures.value,
       begun_more c.deref_mut.result.now,
       file_grows entries counts_entries c.args.file c.deref_mut.result.now c.enter_file.new.table
           (view_file c.args.raw.now) c.in_ok-enter_file.ensures.entered,
+      ap entries c.deref_mut-2.ensures.value,
+      ap entries c.settle_all.ensures,
+      settled_entries c.deref_mut-2.result.now c.settled.result.now,
     )
