@@ -27,7 +27,7 @@ use Rattle.type_table.specs.declared.table.Variable.{Variable}
 use Rattle.type_table.specs.NameClash.{is_event_call}
 use Rattle.type_table.specs.Names.{built_in, or_else}
 use Rattle.type_table.specs.Table.{Table, class_of, class_named, fun_named, member_named, variable_named}
-use Rattle.check_scope.specs.Scope.{Scope, local_named, local_kind, this_local, place, is_top, kind_now}
+use Rattle.check_scope.specs.Scope.{Scope, local_named, local_kind, this_local, place, is_top, is_unseen, kind_now}
 
 -- a typed expression: its kind, the place of its first token, and whether it is the literal `null`
 pub record Typed : Type 0 where
@@ -116,6 +116,10 @@ abbrev pub member_here : Table → Option ℕ → Name → Option Member
 member_here t None n = None
 member_here t (Some c) n = member_named t c n
 
+-- a member isn't found in its own arguments
+abbrev pub unless_unseen : Scope → Name → Option Member → Option Member
+unless_unseen s n x = if is_unseen s n then None else x
+
 -- the fields and static members of the class around and its ancestors
 abbrev pub in_fields : Table → Scope → (line : ℕ) → Option Member → Option (Answer Denotation)
 in_fields t s l (Some (member.Field i k)) =
@@ -175,7 +179,7 @@ in_built_ins n = option_map (λ b. gives (a_type b)) (built_in n)
 abbrev pub in_places : Table → Scope → (line : ℕ) → Name → List (Option (Answer Denotation))
 in_places t s l n =
     in_locals s n ∷
-    in_fields t s l (member_here t s.class n) ∷
+    in_fields t s l (unless_unseen s n (member_here t s.class n)) ∷
     in_variables t s l n ∷
     in_methods t s l (member_here t s.class n) ∷
     in_event_calls t s l n s.class ∷

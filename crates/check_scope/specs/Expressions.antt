@@ -38,7 +38,7 @@ use Rattle.type_table.specs.declared.types.Named.{Named}
 use Rattle.type_table.specs.Names.{is_some}
 use Rattle.type_table.specs.Types.{named_by, is_unknown, is_plain, has_none, written_kind}
 use Rattle.check_scope.specs.Denotations.{Typed, Callee, numbered, through, method, native, native_on, param, yields, exits, Declaration, Denotation, value, at, callable, declared, an_auto, is_void, one, as_value, name_meaning, member_here, member_meaning}
-use Rattle.check_scope.specs.Scope.{Scope, reach, settle, kind_now, is_declared, with_local, place, this_local, declares_globals}
+use Rattle.check_scope.specs.Scope.{Scope, reach, settle, kind_now, is_declared, with_local, place, this_local, declares_globals, in_arguments, behind_arguments}
 pub use Rattle.check_scope.specs.Operations.{is_shred, is_int, fits, widened, taken_as, this_value, word_meaning, Samples, samples, samples_of, whole_samples, unit_in, value_at, mismatch, beside, widened_if, joined_meaning, join_meaning, append_meaning, shift_meaning, are_ints, binary_meaning, negated, inverted, stepped, prefix_meaning, postfix_meaning, units_meaning, times_meaning, dur_meaning, cast_value, cast_to, cast_meaning, choice_of, choice_between, choice_meaning, all_taken_as, all_fit, is_row_with, is_row_of, items_meaning, rows_meaning, array_of, array_meaning, item_at, item_meaning, and_fitting, fitted, constructed, made_by, object_made, made_alone, maker_of, is_new_item, new_object, new_array, new_meaning, new_with_meaning, called, native_call, may_take, param_call, plain_call, callee_meaning, call_meaning, sporked, spork_meaning}
 
 -- declarations ----------------------------------------------------------------------------------
@@ -539,8 +539,9 @@ abbrev mutual
       and_then (sizes t s bs) (λ xs.
       declaration_meaning t xs.scope l h (declr n bs) (with_sizes xs.typed))
   meaning t s (tree.declare l h (declr_with n es)) =
-      and_then (values t s es) (λ xs.
-      declaration_meaning t xs.scope l h (declr_with n es) (with_arguments xs.typed))
+      and_then (values t (in_arguments s n) es) (λ xs.
+      declaration_meaning t (behind_arguments xs.scope) l h (declr_with n es)
+      (with_arguments xs.typed))
   meaning t s (tree.chuck l a o b) =
       and_then (value_of (expr_line a) (meaning t s a)) (λ x.
       and_then (meaning t x.scope b) (λ m.

@@ -1,8 +1,10 @@
 -- Where an expression stands: its file, class and function, and the names declared around it.
 use Rattle.std.specs.Prelude.{◌≡◌, ℕ, ◌+◌, nat_eq, Bool, true, false, ◌&&◌, not, List, [], ◌∷◌, ◌++◌, length, find, Option, Some, None, slice_get, max, if◌then◌else◌}
 use Rattle.std.specs.BTreeMap.{BTreeMap, IsOrdered, get}
+use Rattle.std.specs.List.{list_any}
 use Rattle.std.specs.Option.{option_map}
 use Rattle.std.specs.Ordering.{nat_cmp}
+use Rattle.std.specs.Str.{bytes_eq}
 use Rattle.ck_values.specs.declared.kind.Kind.{Kind}
 use Rattle.ck_values.specs.declared.kind.Kind.TheVariants.{Void}
 use Rattle.ck_values.specs.declared.trap.Place.{Place}
@@ -13,8 +15,8 @@ use Rattle.type_table.specs.Table.{Table, fun_of}
 
 -- the file variables below the number `reached` were declared before; the kinds that declarations
 -- with `auto` gave to file variables so far, by their numbers; the kinds of all locals declared so
--- far, in order; and the locals by name: those of the function's own level, and of each open block,
--- the innermost last
+-- far, in order; the locals by name: those of the function's own level, and of each open block, the
+-- innermost last; and the members in whose own arguments it stands, the innermost last
 pub record Scope : Type 0 where
   pub file : ℕ
   pub class : Option ℕ
@@ -24,6 +26,7 @@ pub record Scope : Type 0 where
   pub locals : List Kind
   pub own : List (Name × ℕ)
   pub blocks : List (List (Name × ℕ))
+  pub unseen : List Name
 
 abbrev pub new_scope : (file : ℕ) → (class fun : Option ℕ) → (settled : List (ℕ × Kind)) → Scope
 new_scope file class fun settled =
@@ -36,6 +39,7 @@ new_scope file class fun settled =
       locals = [];
       own = [];
       blocks = [];
+      unseen = [];
     }
 
 -- the file variables below this number are seen
@@ -148,3 +152,19 @@ declares_globals s = not (is_some s.fun) && is_empty s.blocks
 -- only what declares file variables settles any
 abbrev pub settles : Scope → Bool
 settles s = declares_globals s && not (is_some s.class)
+
+-- what is declared here is a member of the class
+abbrev pub declares_members : Scope → Bool
+declares_members s = declares_globals s && is_some s.class
+
+-- a member isn't seen in its own arguments
+abbrev pub in_arguments : Scope → Name → Scope
+in_arguments s n =
+    record s { unseen = if declares_members s then s.unseen ++ n ∷ [] else s.unseen }
+
+-- behind them it is seen again
+abbrev pub behind_arguments : Scope → Scope
+behind_arguments s = record s { unseen = if declares_members s then front s.unseen else s.unseen }
+
+abbrev pub is_unseen : Scope → Name → Bool
+is_unseen s n = list_any (bytes_eq n) s.unseen

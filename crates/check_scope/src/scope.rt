@@ -1,6 +1,6 @@
 //! Where an expression stands.
 ghost use Rattle.std.specs.Prelude.{◌≡◌, ◌+◌, ◌^◌, ◌<◌, ◌≤◌, [], ◌∷◌, ◌++◌, length, None, true, false, OnOk, OnErr, IfOk, IfErr};
-ghost use Rattle.check_scope.specs.Scope.{new_scope, reach, settle, kind_now, with_block, without_block, local_named, local_in, last_or, is_declared, with_local, own_with, with_last, local_kind, is_static_fun, this_local, is_top, declares_globals, place as place_of};
+ghost use Rattle.check_scope.specs.Scope.{new_scope, reach, settle, kind_now, with_block, without_block, local_named, local_in, last_or, is_declared, with_local, own_with, with_last, local_kind, is_static_fun, this_local, is_top, declares_globals, declares_members, in_arguments, behind_arguments, is_unseen, place as place_of};
 ghost use Rattle.type_table.specs.Answer.{IsFault};
 ghost use Rattle.type_table.specs.Names.{lookup};
 ghost use Rattle.type_table.specs.declared.fault.FaultKind.TheVariants.{Duplicate};
@@ -32,6 +32,8 @@ pub struct Scope {
     own: ByName<u32>,
     /// Those of each open block, the innermost last.
     blocks: Vec<ByName<u32>>,
+    /// The members of the class in whose own arguments it stands, the innermost last.
+    unseen: Vec<Text>,
 }
 
 impl Model for Scope {
@@ -48,6 +50,7 @@ impl Model for Scope {
       locals = s.locals;
       own = s.own;
       blocks = s.blocks.items;
+      unseen = s.unseen.items;
     } };
 }
 
@@ -82,6 +85,7 @@ impl Scope {
             locals: List::from_vec(Vec::new(alloc)),
             own: ByName::new(alloc),
             blocks: Vec::new(alloc),
+            unseen: Vec::new(alloc),
         }
     }
 
@@ -284,6 +288,45 @@ impl Scope {
         ensures { result ≡ declares_globals self.now }
     {
         self.fun.is_none() && self.blocks.is_empty()
+    }
+
+    /// Whether what is declared here is a member of the class.
+    fn declares_members(&self) -> bool
+        ensures { result ≡ declares_members self.now }
+    {
+        self.declares_globals() && self.class.is_some()
+    }
+
+    /// Enters the arguments of a declaration: a member isn't seen in its own.
+    pub fn enter_arguments(&mut self, alloc: Global, name: &Text) -> Result<(), TypeFault>
+        ensures entered { OnOk result (self.new ≡ in_arguments self.old name.now) }
+        ensures kept { OnErr result (self.new ≡ self.old) }
+        ensures memory { IfErr result (λ why. why ≡ memory out_of_memory) }
+    {
+        if self.declares_members() {
+            let name = name.try_clone(alloc)?;
+            self.unseen.push(name)?;
+        }
+        Ok(())
+    }
+
+    /// Leaves the arguments of a declaration. It takes no memory.
+    pub fn leave_arguments(&mut self)
+        ensures { self.new ≡ behind_arguments self.old }
+    {
+        if !self.declares_members() {
+            return;
+        }
+        self.unseen.pop();
+    }
+
+    /// Whether it stands in the arguments of a member of this name.
+    pub fn is_unseen(&self, name: &Text) -> bool
+        ensures { result ≡ is_unseen self.now name.now }
+    {
+        self.unseen
+            .iter()
+            .any(|unseen| unseen.bytes() == name.bytes())
     }
 
     /// The file.
