@@ -39,7 +39,7 @@ use Rattle.type_table.proofs.Ranges.{Each}
 use Rattle.check_scope.specs.Expressions as e
 use Rattle.check_scope.specs.Expressions.{Making, with_sizes, with_arguments, Meant, Valued, AllValued, in_scope, value_of, meaning, values, sizes, typing}
 use Rattle.check_scope.specs.Denotations.{Typed, Callee, numbered, through, method, native, native_on, param, yields, exits, Declaration, Denotation, value, at, callable, a_type, declared, an_auto, is_void, one, as_value, member_here}
-use Rattle.check_scope.specs.Scope.{Scope, reach, settle, kind_now, place, is_declared, with_local, this_local, declares_globals}
+use Rattle.check_scope.specs.Scope.{Scope, reach, settle, kind_now, place, is_declared, with_local, this_local, declares_globals, in_arguments, behind_arguments}
 use Rattle.expr_laws.proofs.NameFiles.{TypedLies, CalleeLies, Lies, IsIn, as_value_in, name_in, member_in}
 use Rattle.expr_laws.proofs.OperationFiles.{taken_lies, widened_lies, fitted_lie, word_in, binary_in, prefix_in, postfix_in, dur_in, cast_in, choice_in, array_in, item_in, object_made_in, maker_in, new_in, new_with_in, called_in, native_call_in, call_in, spork_in}
 use Rattle.expr_laws.proofs.ScopeLaws.{each_and}
@@ -519,8 +519,9 @@ module _ (files f : ℕ) (known : f < files) where
           placed_then A M f _ _ (sizes_in s here bs) (λ xs so.
           declaration_in xs.scope l h (declr n bs) (with_sizes xs.typed) so.0 so.1)
       meaning_in s here (tree.declare l h (declr_with n es)) =
-          placed_then A M f _ _ (values_in s here es) (λ xs so.
-          declaration_in xs.scope l h (declr_with n es) (with_arguments xs.typed) so.0 so.1)
+          placed_then A M f _ _ (values_in (in_arguments s n) here es) (λ xs so.
+          declaration_in (behind_arguments xs.scope) l h (declr_with n es) (with_arguments xs.typed)
+          so.0 so.1)
       meaning_in s here (tree.chuck l a o b) =
           placed_then V M f _ _ (value_in (expr_line a) _ (meaning_in s here a)) (λ x so.
           placed_then M M f _ _ (meaning_in x.scope so.0 b) (λ m too.

@@ -20,20 +20,20 @@ use Rattle.check_scope.specs.Expressions as e
 use Rattle.check_scope.specs.Expressions.{Making, with_sizes, with_arguments, Meant, Valued, AllValued, and_valued, in_scope, value_of, meaning, values, sizes}
 use Rattle.check_scope.specs.Denotations as means
 use Rattle.check_scope.specs.Denotations.{Typed, Denotation, value, as_value, name_meaning}
-use Rattle.check_scope.specs.Scope.{Scope, place, declares_globals}
+use Rattle.check_scope.specs.Scope.{Scope, place, declares_globals, in_arguments, behind_arguments}
 use Rattle.expr_laws.proofs.FineCalls.{call_meaning_is, spork_meaning_is, chuck_callee_is}
 use Rattle.expr_laws.proofs.FineChuck.{now_meaning_is, chuck_meaning_is}
 use Rattle.expr_laws.proofs.FineDeclarations.{sizes_count, HasGlobal, HasForm, parts, agreed_form, declared_with_is}
 use Rattle.expr_laws.proofs.FineAutos.{auto_chucked_is}
 use Rattle.expr_laws.proofs.FineForms.{cast_meaning_is, choice_is, array_is, item_is}
 use Rattle.expr_laws.proofs.FineMaking.{new_is, new_with_is}
-use Rattle.expr_laws.proofs.Growing.{Keeps, keeps_refl, keeps_trans, same_globals, declaration_keeps, auto_keeps}
+use Rattle.expr_laws.proofs.Growing.{Keeps, keeps_refl, keeps_trans, same_globals, declaration_keeps, auto_keeps, in_arguments_keeps, behind_arguments_keeps}
 use Rattle.expr_laws.proofs.FineMembers.{member_or_wait_is}
 use Rattle.expr_laws.proofs.FineNames.{name_meaning_is, word_meaning_is}
 use Rattle.expr_laws.proofs.Oks.{ok_then, ok_if}
 use Rattle.expr_laws.proofs.Premises.{Leads, Ends, Ok, Has, IsScope, IsValue, IsMeaning}
 use Rattle.expr_laws.proofs.Results.{Carries, IsMeant}
-use Rattle.expr_laws.proofs.ScopeLaws.{each_and, within_grown, ends_before}
+use Rattle.expr_laws.proofs.ScopeLaws.{each_and, within_grown, ends_before, same_ends, in_arguments_is, behind_arguments_is}
 use Rattle.expr_laws.proofs.FineTypes.{Matches, same_some, named_in, sized}
 use Rattle.expr_laws.proofs.FineValues.{as_value_is, binary_is, prefix_is, postfix_is, dur_is}
 
@@ -53,6 +53,15 @@ module _ (p : Program) (t : Table) where
     λ all leads ends. second.1 all leads
         (first.1 all (within_grown u v all second.0.0 leads) ends),
   )
+
+  -- in the arguments of a declaration, and behind them
+  in_arguments_follows : (s : Scope) (n : Name) → Follows s (in_arguments s n)
+  in_arguments_follows s n =
+      (in_arguments_keeps t s n, λ all leads ends. same_ends p t s (in_arguments s n) all refl refl ends)
+
+  behind_arguments_follows : (s : Scope) → Follows s (behind_arguments s)
+  behind_arguments_follows s =
+      (behind_arguments_keeps t s, λ all leads ends. same_ends p t s (behind_arguments s) all refl refl ends)
 
   abbrev pub Behind : (before behind : Scope) → Type 0
   Behind s u = IsScope t u × Follows s u
@@ -351,11 +360,17 @@ module _ (p : Program) (t : Table) (has : Has p t) where
         (sizes_count t s bs)) (λ xs part.
         declared_behind s xs.scope l h (declr n bs) (with_sizes xs.typed) part.0.0 part.0.1 part.1 (λ is. (known is).1))
     meaning_is s (tree.declare l h (declr_with n es)) scope known =
-        ok_then (A p t s) (M p t s) (values t s es)
-        (λ xs. e.declaration_meaning t xs.scope l h (declr_with n es) (with_arguments xs.typed))
-        (values_are s es scope (λ is. (known is).0)) (λ xs part.
-        declared_behind s xs.scope l h (declr_with n es) (with_arguments xs.typed) part.0 part.1 tt
-        (λ is. (known is).1))
+        let inner = in_arguments s n in
+        ok_then (A p t inner) (M p t s) (values t inner es)
+        (λ xs. e.declaration_meaning t (behind_arguments xs.scope) l h (declr_with n es) (with_arguments xs.typed))
+        (values_are inner es (in_arguments_is t s n scope) (λ is. (known is).0)) (λ xs part.
+        let behind = behind_arguments xs.scope in
+        more p t s inner _ (in_arguments_follows p t s n)
+        (declared_behind inner behind l h (declr_with n es) (with_arguments xs.typed) (
+          behind_arguments_is t xs.scope part.0.0,
+          follows_trans p t inner xs.scope behind part.0.1 (behind_arguments_follows p t xs.scope),
+        )
+        (λ all ends. part.1 all (same_ends p t behind xs.scope all refl refl ends)) tt (λ is. (known is).1)))
     meaning_is s (tree.chuck l a o b) scope known =
         ok_then (V p t s) (M p t s) (value_of (expr_line a) (meaning t s a)) _
         (as_valued s a (meaning_is s a scope (λ is. (known is).0))) (λ x first.

@@ -34,7 +34,7 @@ use Rattle.type_table.proofs.Ranges.{Each, Within, ValueIn, many}
 use Rattle.check_scope.specs.Expressions.{this_value, word_meaning}
 use Rattle.check_scope.specs.Denotations as m
 use Rattle.check_scope.specs.Denotations.{Denotation, member_here, name_meaning}
-use Rattle.check_scope.specs.Scope.{Scope, settled_or, kind_now, or_void, local_in, local_named, local_kind, this_local, is_top, place}
+use Rattle.check_scope.specs.Scope.{Scope, settled_or, kind_now, or_void, local_in, local_named, local_kind, this_local, is_top, is_unseen, place}
 use Rattle.ck_typed.specs.WellFormed.{HasKind}
 use Rattle.expr_laws.proofs.Oks.{both, ok_if}
 use Rattle.expr_laws.proofs.Premises.{Ends, HasSettled, HasStatic, Ok, PlainFun, MemberIs, Has, IsThis, IsClass, IsScope, Valued, IsValue, IsType, IsMeaning}
@@ -209,6 +209,14 @@ module _ (p : Program) (t : Table) (has : Has p t) (all : List Kind) where
   member_is_here s n (Some c) of is = some_is (IsHere s) (member_named t c n)
       (λ x found. (c, of, has.member c n x (class_in s c is of) found))
 
+  seen_member_is : (s : Scope) (n : Name) (x : Option Member) → IfSome x (IsHere s)
+      → IfSome (m.unless_unseen s n x) (IsHere s)
+  seen_member_is s n x here = go (is_unseen s n)
+    where
+      go : (unseen : Bool) → IfSome (if unseen then None else x) (IsHere s)
+      go true = tt
+      go false = here
+
   in_fields_is : (s : Scope) (l : ℕ) (x : Option Member) → IfSome x (IsHere s) → IsScope t s → Ends p t s all
       → IsFine (m.in_fields t s l x)
   in_fields_is s l (Some (member.Field i k)) here is within =
@@ -294,7 +302,8 @@ module _ (p : Program) (t : Table) (has : Has p t) (all : List Kind) where
       let here = member_is_here s n s.class refl is in (
         in_locals_is s n is within,
         (
-          in_fields_is s l (member_here t s.class n) here is within,
+          in_fields_is s l (m.unless_unseen s n (member_here t s.class n))
+              (seen_member_is s n (member_here t s.class n) here) is within,
           (
             in_variables_is s l n within,
             (

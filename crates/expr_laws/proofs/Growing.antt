@@ -21,11 +21,11 @@ use Rattle.check_scope.specs.Expressions as e
 use Rattle.check_scope.specs.Expressions.{Making, with_sizes, with_arguments, Meant, Valued, AllValued, and_valued, in_scope, value_of, meaning, values, sizes}
 use Rattle.check_scope.specs.Denotations as means
 use Rattle.check_scope.specs.Denotations.{Typed, Denotation, as_value}
-use Rattle.check_scope.specs.Scope.{Scope, is_empty, is_declared, with_last, with_local, reach, settle, kind_now, declares_globals, settles}
-use Rattle.expr_laws.proofs.Oks.{ok_if}
+use Rattle.check_scope.specs.Scope.{Scope, is_empty, is_declared, with_last, with_local, reach, settle, kind_now, declares_globals, settles, in_arguments, behind_arguments}
+use Rattle.expr_laws.proofs.Oks.{ok_if, ok_map}
 use Rattle.expr_laws.proofs.Premises.{Ok, Grows}
 use Rattle.expr_laws.proofs.Settling.{Settles, as_before, one_more, settles_trans}
-use Rattle.expr_laws.proofs.ScopeLaws.{grows_refl, grows_trans, reach_grows, settle_grows, with_local_grows}
+use Rattle.expr_laws.proofs.ScopeLaws.{grows_refl, grows_trans, reach_grows, settle_grows, with_local_grows, in_arguments_grows, behind_arguments_grows}
 
 -- it grew, and stands in as many blocks as before; where no file variables are declared none was
 -- settled; and only those were that had no kind
@@ -70,6 +70,12 @@ local_keeps t s n k = (with_local_grows t s n k, last_length s.blocks (n, length
 
 reach_keeps : (t : Table) (s : Scope) (i : ℕ) → Keeps t s (reach s i)
 reach_keeps t s i = (reach_grows t s i, refl, λ none. refl, as_before)
+
+pub in_arguments_keeps : (t : Table) (s : Scope) (n : Name) → Keeps t s (in_arguments s n)
+in_arguments_keeps t s n = (in_arguments_grows t s n, refl, λ none. refl, as_before)
+
+pub behind_arguments_keeps : (t : Table) (s : Scope) → Keeps t s (behind_arguments s)
+behind_arguments_keeps t s = (behind_arguments_grows t s, refl, λ none. refl, as_before)
 
 -- answers -----------------------------------------------------------------------------------------
 
@@ -291,8 +297,15 @@ module _ (t : Table) where
         (λ z. in_scope_keeps z.scope z.scope _ (keeps_refl z.scope))))
     meaning_keeps s (tree.declare l h (declr n bs)) = after_all t s _ _ (sizes_keep s bs)
         (λ xs. declaration_keeps t xs.scope l h (declr n bs) (with_sizes xs.typed))
-    meaning_keeps s (tree.declare l h (declr_with n es)) = after_all t s _ _ (values_keep s es)
-        (λ xs. declaration_keeps t xs.scope l h (declr_with n es) (with_arguments xs.typed))
+    meaning_keeps s (tree.declare l h (declr_with n es)) =
+        let inner = in_arguments s n in
+        after_all t s _ _
+        (ok_map (AllKeep t inner) (AllKeep t s) (values t inner es)
+        (λ xs keeps. keeps_trans s inner xs.scope (in_arguments_keeps t s n) keeps) (values_keep inner es))
+        (λ xs. let behind = behind_arguments xs.scope in
+        ok_map (MeantKeeps t behind) (MeantKeeps t xs.scope) _
+        (λ m keeps. keeps_trans xs.scope behind m.scope (behind_arguments_keeps t xs.scope) keeps)
+        (declaration_keeps t behind l h (declr_with n es) (with_arguments xs.typed)))
     meaning_keeps s (tree.chuck l a o b) =
         after_value t s _ _ (value_keeps t s (expr_line a) _ (meaning_keeps s a)) (λ x.
         after t x.scope _ _ (meaning_keeps x.scope b) (λ m. chucked_keeps t m.scope l o x.typed b m.means))

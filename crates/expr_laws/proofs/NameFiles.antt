@@ -108,7 +108,7 @@ module _ (files : ℕ) (t : Table) (s : Scope) (here : s.file < files) (l : ℕ)
   in_places_in n = (
     made_in files s.file _ (local_named s n) (λ i. tt),
     (
-      in_fields_in (member_here t s.class n),
+      in_fields_in (m.unless_unseen s n (member_here t s.class n)),
       (
         made_in files s.file _ (m.seen s (variable_named t s.file n)) (λ v.
             unless_public_in (m.at (spot.Static v.index) no_exprs v.kind) tt),

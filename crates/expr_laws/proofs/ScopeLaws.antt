@@ -4,7 +4,7 @@ use Rattle.ck_values.specs.declared.kind.Kind.{Kind}
 use Rattle.ck_syntax.specs.Tree.{Name}
 use Rattle.type_table.proofs.Ranges.{Each, Within, ValueIn, many}
 use Rattle.type_table.specs.Table.{Table}
-use Rattle.check_scope.specs.Scope.{Scope, reach, settle, with_block, front, without_block, with_last, own_with, with_local, this_local}
+use Rattle.check_scope.specs.Scope.{Scope, reach, settle, with_block, front, without_block, with_last, own_with, with_local, this_local, in_arguments, behind_arguments}
 use Rattle.ck_typed.specs.Tree.{Program}
 use Rattle.expr_laws.proofs.Premises.{IsNumber, IsThis, IsScope, Grows, IsSettled, HasSettled, Leads, Ends}
 
@@ -154,6 +154,34 @@ module _ (t : Table) where
 
   pub without_block_grows : (s : Scope) → Grows s (without_block s)
   without_block_grows s = record {
+    file = refl;
+    class = refl;
+    fun = refl;
+    locals = within_itself s.locals;
+    settled =
+        within_itself s.settled;
+  }
+
+  -- arguments of a declaration ----------------------------------------------------------------
+
+  pub in_arguments_is : (s : Scope) (n : Name) → IsScope t s → IsScope t (in_arguments s n)
+  in_arguments_is s n is = record { own = is.own; blocks = is.blocks; class = is.class; this = is.this }
+
+  pub in_arguments_grows : (s : Scope) (n : Name) → Grows s (in_arguments s n)
+  in_arguments_grows s n = record {
+    file = refl;
+    class = refl;
+    fun = refl;
+    locals = within_itself s.locals;
+    settled =
+        within_itself s.settled;
+  }
+
+  pub behind_arguments_is : (s : Scope) → IsScope t s → IsScope t (behind_arguments s)
+  behind_arguments_is s is = record { own = is.own; blocks = is.blocks; class = is.class; this = is.this }
+
+  pub behind_arguments_grows : (s : Scope) → Grows s (behind_arguments s)
+  behind_arguments_grows s = record {
     file = refl;
     class = refl;
     fun = refl;
