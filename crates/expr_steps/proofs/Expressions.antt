@@ -39,7 +39,7 @@ use Rattle.check_scope.specs.Denotations.{Typed, Callee, Declaration, Denotation
 use Rattle.check_scope.specs.Expressions as e
 use Rattle.check_scope.specs.Expressions.{Making, Meant, Valued, AllValued, in_scope, value_of, meaning, values, sizes}
 use Rattle.check_scope.specs.Expressions.{typing}
-use Rattle.check_scope.specs.Scope.{Scope, reach, kind_now, is_declared, place, this_local, declares_globals}
+use Rattle.check_scope.specs.Scope.{Scope, reach, kind_now, is_declared, place, this_local, declares_globals, in_arguments, behind_arguments}
 use Rattle.expr_laws.proofs.Oks.{ok_then, ok_map}
 use Rattle.expr_laws.proofs.Premises.{Ok}
 use Rattle.expr_steps.specs.Tokens.{token_steps}
@@ -489,9 +489,10 @@ module _ (t : Table) where
         declaration_costs (token_steps * all) t xs.scope l h (declr name bs) (e.with_sizes xs.typed) (omega arith))
     meaning_costs s (tree.declare l h (declr_with name es)) =
         let all = expr_size (tree.declare l h (declr_with name es)) in
-        ok_then (AllWithin (exprs_size es)) (MeansWithin all) (values t s es) _ (values_cost s es) (λ xs few.
-        declaration_costs (token_steps * all) t xs.scope l h (declr_with name es) (e.with_arguments xs.typed)
-        (omega arith))
+        let inner = in_arguments s name in
+        ok_then (AllWithin (exprs_size es)) (MeansWithin all) (values t inner es) _ (values_cost inner es) (λ xs few.
+        declaration_costs (token_steps * all) t (behind_arguments xs.scope) l h (declr_with name es)
+        (e.with_arguments xs.typed) (omega arith))
     meaning_costs s (tree.chuck l a o b) =
         let all = expr_size a + expr_size b + 1 in
         after_value s a all _ (meaning_costs s a) (λ x few.
@@ -525,7 +526,8 @@ module _ (t : Table) where
       declaration_costs (token_steps * all) t xs.scope l h (declr name bs) (e.with_sizes xs.typed) (omega arith)))
   declared_costs s l h (declr_with name es) =
       let all = exprs_size es + 3 in
+      let inner = in_arguments s name in
       value_of_costs (token_steps * all) l (meaning t s (tree.declare l h (declr_with name es)))
-      (ok_then (AllWithin (exprs_size es)) (MeansWithin all) (values t s es) _ (values_cost s es) (λ xs few.
-      declaration_costs (token_steps * all) t xs.scope l h (declr_with name es) (e.with_arguments xs.typed)
-      (omega arith)))
+      (ok_then (AllWithin (exprs_size es)) (MeansWithin all) (values t inner es) _ (values_cost inner es) (λ xs few.
+      declaration_costs (token_steps * all) t (behind_arguments xs.scope) l h (declr_with name es)
+      (e.with_arguments xs.typed) (omega arith)))

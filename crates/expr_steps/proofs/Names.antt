@@ -85,7 +85,7 @@ module _ (n : ℕ) (t : Table) (s : Scope) (l : ℕ) where
   in_places_cost name few = (
     made_costs n _ (local_named s name) (λ i. omega arith),
     (
-      in_fields_costs (member_here t s.class name) few,
+      in_fields_costs (m.unless_unseen s name (member_here t s.class name)) few,
       (
         made_costs n _ (m.seen s (variable_named t s.file name))
             (λ v. unless_public_costs (m.at (spot.Static v.index) typed.no_exprs v.kind) (omega arith)),
