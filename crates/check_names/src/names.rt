@@ -188,6 +188,13 @@ fn member_here(table: &Table, class: Option<u32>, name: &Text) -> Option<Member>
     }
 }
 
+/// The member of this name, where it doesn't stand in its own arguments.
+fn unless_unseen(scope: &Scope, name: &Text, member: Option<Member>) -> Option<Member>
+    ensures { result ≡ definition.unless_unseen scope.now name.now member }
+{
+    if scope.is_unseen(name) { None } else { member }
+}
+
 /// A field or a static member of the class around or of an ancestor.
 fn in_fields(
     alloc: Global,
@@ -326,7 +333,8 @@ pub fn name_meaning(
         return local;
     }
     let member = member_here(table, scope.class(), name);
-    if let Some(field) = in_fields(alloc, table, scope, line, member) {
+    let visible = unless_unseen(scope, name, member);
+    if let Some(field) = in_fields(alloc, table, scope, line, visible) {
         return field;
     }
     if let Some(variable) = in_variables(alloc, table, scope, line, name) {
