@@ -629,7 +629,9 @@ fn making(
             Ok(Making::Sizes(List::from_vec(sizes)))
         }
         DeclaratorTail::Arguments(arguments) => {
+            scope.enter_arguments(alloc, &declarator.name)?;
             let arguments = exprs(alloc, table, scope, arguments.items())?;
+            scope.leave_arguments();
             Ok(Making::Arguments(List::from_vec(arguments)))
         }
     }
