@@ -1,0 +1,5 @@
+pub mod Fields
+pub mod Halves
+pub mod Heads
+pub mod Names
+pub mod Readings

@@ -1,0 +1,4 @@
+pub mod Chunks
+pub mod Formats
+pub mod Frames
+pub mod Waves
