@@ -1,8 +1,7 @@
 -- Numbers in bytes, and the fields of a format: what was read was written, and the other way round.
-use Rattle.std.proofs.Common.{◌≡◌, ℕ, ◌+◌, ◌-◌, ◌^◌, ◌<◌, ◌≤◌, List, [], ◌∷◌, ◌++◌, length, get_or, take, drop, refl, sym, ap, subst, ◌∙◌, arith, inl, inr}
-use Rattle.std.specs.Int.{w16, w32, to_le_bytes, from_le_bytes}
+use Rattle.std.proofs.Common.{◌≡◌, ℕ, ◌+◌, ◌-◌, ◌<◌, ◌≤◌, List, ◌++◌, length, get_or, take, drop, refl, sym, ap, subst, ◌∙◌, arith, inl, inr}
 use Rattle.std.proofs.lemmas.Bool.{cases_lt}
-use Rattle.std.proofs.lemmas.List.{take_at, drop_at, drop-drop, take_all, take-append-drop, length-append, length-take, length-drop, get_or-drop, get_or-take, get_or_past}
+use Rattle.std.proofs.lemmas.List.{drop_at, drop-drop, take_all, take-append-drop, length-append, length-take, length-drop, get_or-drop, get_or-take, get_or_past}
 use Rattle.std.proofs.lemmas.Nat.{le_bytes_2, le_bytes_4}
 use Rattle.byteorder.specs.Endian.{little_bytes, little_number}
 use Rattle.byteorder.specs.Numbers.{little_number-reads_back}
@@ -74,9 +73,9 @@ says body format fits h =
       more = drop 16 body;
       six = omega (arith, length-take 6 (drop 8 body), length-drop 8 body, h.long);
       stands = sym (ap (λ (t : List ℕ). little_bytes 2 1 ++ (little_bytes 2 format.channels ++ (little_bytes 4 format.rate ++ (take 6 (drop 8 body) ++ t)))) e5
-      ∙ ap (λ (t : List ℕ). little_bytes 2 1 ++ (little_bytes 2 format.channels ++ (little_bytes 4 format.rate ++ t))) e4
-      ∙ ap (λ (t : List ℕ). little_bytes 2 1 ++ (little_bytes 2 format.channels ++ t)) e3
-      ∙ ap (λ (t : List ℕ). little_bytes 2 1 ++ t) e2 ∙ e1);
+          ∙ ap (λ (t : List ℕ). little_bytes 2 1 ++ (little_bytes 2 format.channels ++ (little_bytes 4 format.rate ++ t))) e4
+          ∙ ap (λ (t : List ℕ). little_bytes 2 1 ++ (little_bytes 2 format.channels ++ t)) e3
+          ∙ ap (λ (t : List ℕ). little_bytes 2 1 ++ t) e2 ∙ e1);
       a_channel = h.a_channel;
       two_at_most = h.two_at_most;
       above_zero = h.above_zero;

@@ -1,5 +1,5 @@
 -- The half of two samples.
-use Rattle.std.proofs.Common.{◌≡◌, ℕ, ◌+◌, ◌/◌, ◌*◌, List, get_or, take, drop, ℤ, pos, negsuc, ◌+ℤ◌, ◌≤ℤ◌, ◌∙◌, ap, sym, refl, arith}
+use Rattle.std.proofs.Common.{◌≡◌, ℕ, List, take, ℤ, pos, negsuc, ◌+ℤ◌, ◌≤ℤ◌, ◌∙◌, ap, refl, arith}
 use Rattle.std.specs.Int.{int_div_euclid}
 use Rattle.std.proofs.lemmas.Int.{to_z-of_z, ints}
 use Rattle.std.proofs.lemmas.List.{get_or-take}

@@ -3,3 +3,4 @@ pub mod Halves
 pub mod Heads
 pub mod Names
 pub mod Readings
+pub mod Written

@@ -1,10 +1,10 @@
 -- What `==` says of names, and the front of a RIFF WAVE file.
-use Rattle.std.proofs.Common.{◌≡◌, ◌≢◌, ℕ, ◌+◌, ◌<◌, ◌≤◌, Bool, true, false, nat_eq, List, [], ◌∷◌, ◌++◌, length, take, drop, Option, Some, None, refl, sym, ap, subst, ◌∙◌, arith, Bor}
+use Rattle.std.proofs.Common.{◌≡◌, ◌≢◌, ℕ, ◌+◌, ◌<◌, ◌≤◌, true, false, nat_eq, List, ◌++◌, length, take, drop, Option, Some, None, refl, sym, ap, subst, ◌∙◌, arith, Bor}
 use Rattle.std.specs.Prelude.{MatchOption, codes}
 use lib.Pointwise.{pointwise}
 use Rattle.std.proofs.lemmas.Bool.Decides.{Decides-eqb, not_from_Decides}
 use Rattle.std.proofs.lemmas.Slice.Eq.{slice_eq-Decides}
-use Rattle.std.proofs.lemmas.List.{take_at, drop_at, take-append-drop, length-take, length-append}
+use Rattle.std.proofs.lemmas.List.{drop_at, take-append-drop, length-take, length-append}
 use Rattle.sample_buf.specs.Chunks.{IsRiff}
 
 pub same_name : (xs ys : List ℕ) → pointwise nat_eq xs ys ≡ true → xs ≡ ys
@@ -42,11 +42,11 @@ riff_found file chunks p = record {
   size = take 4 (drop 4 file);
   four = omega (arith, length-take 4 (drop 4 file), p.long);
   stands =
-    sym (ap (λ (t : List ℕ). codes "RIFF" ++ (take 4 (drop 4 file) ++ (codes "WAVE" ++ t))) p.behind
-    ∙ ap (λ (t : List ℕ). codes "RIFF" ++ (take 4 (drop 4 file) ++ (t ++ drop 4 (drop 4 (drop 4 file))))) (sym p.second)
-    ∙ ap (λ (t : List ℕ). codes "RIFF" ++ (take 4 (drop 4 file) ++ t)) (take-append-drop 4 (drop 4 (drop 4 file)))
-    ∙ ap (λ (t : List ℕ). codes "RIFF" ++ t) (take-append-drop 4 (drop 4 file))
-    ∙ ap (λ (t : List ℕ). t ++ drop 4 file) (sym p.first) ∙ take-append-drop 4 file);
+      sym (ap (λ (t : List ℕ). codes "RIFF" ++ (take 4 (drop 4 file) ++ (codes "WAVE" ++ t))) p.behind
+      ∙ ap (λ (t : List ℕ). codes "RIFF" ++ (take 4 (drop 4 file) ++ (t ++ drop 4 (drop 4 (drop 4 file))))) (sym p.second)
+      ∙ ap (λ (t : List ℕ). codes "RIFF" ++ (take 4 (drop 4 file) ++ t)) (take-append-drop 4 (drop 4 (drop 4 file)))
+      ∙ ap (λ (t : List ℕ). codes "RIFF" ++ t) (take-append-drop 4 (drop 4 file))
+      ∙ ap (λ (t : List ℕ). t ++ drop 4 file) (sym p.first) ∙ take-append-drop 4 file);
 }
 
 -- the chunks of a RIFF WAVE file, or no such file

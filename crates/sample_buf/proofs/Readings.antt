@@ -23,7 +23,7 @@ among : {X : Type 0} (P : X → Type 0) (xs ys : List X) (x : X) → AllByRecurs
 among P [] ys x h = h.0
 among P (y ∷ xs) ys x h = among P xs ys x h.1
 
-other_names : format_name ≡ data_name → ⊥
+pub other_names : format_name ≡ data_name → ⊥
 other_names e = absurd (omega (arith, ap (λ (t : List ℕ). get_or t 0 0) e))
 
 -- ---- how a reading goes on
@@ -169,9 +169,10 @@ last_format cs f g s t =
 pub one_samples : (file bytes more : List ℕ) (f g : Format) → HasSamples file f bytes → HasSamples file g more → (f ≡ g) × (bytes ≡ more)
 one_samples file bytes more f g h k =
     let same = one_opening file h.rest k.rest h.chunks k.chunks h.opens k.opens (data_stuck h.rest h.behind h.size h.head) (data_stuck k.rest k.behind k.size k.head) in
-    let head = same_head h.rest data_name data_name h.size k.size h.behind k.behind h.head (subst (λ (u : List ℕ). HasHead u data_name k.size k.behind) (sym same.1) k.head) in
-    (last_format h.chunks f g h.says (subst (λ (u : List Chunk). LastSays u g) (sym same.0) k.says),
-    h.samples ∙ ap (λ (n : ℕ). take n h.behind) head.one_size ∙ ap (take k.size) head.one_rest ∙ sym k.samples)
+    let head = same_head h.rest data_name data_name h.size k.size h.behind k.behind h.head (subst (λ (u : List ℕ). HasHead u data_name k.size k.behind) (sym same.1) k.head) in (
+      last_format h.chunks f g h.says (subst (λ (u : List Chunk). LastSays u g) (sym same.0) k.says),
+      h.samples ∙ ap (λ (n : ℕ). take n h.behind) head.one_size ∙ ap (take k.size) head.one_rest ∙ sym k.samples,
+    )
 
 pub one_wave : (file : List ℕ) (v w : Wave) → IsWave file v → IsWave file w → v ≡ w
 one_wave file v w h k =

@@ -8,6 +8,10 @@ pub record IsRiff (file chunks : List ℕ) : Type 0 where
   pub four : length size ≡ 4
   pub stands : file ≡ codes "RIFF" ++ (size ++ (codes "WAVE" ++ chunks))
 
+-- the bytes are no such file
+abbrev pub IsNoRiff : List ℕ → Type 0
+IsNoRiff file = (chunks : List ℕ) → IsRiff file chunks → ⊥
+
 -- a chunk: its name and its body
 pub record Chunk : Type 0 where
   pub name : List ℕ

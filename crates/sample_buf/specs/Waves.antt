@@ -3,7 +3,7 @@ use Rattle.std.specs.Prelude.{◌≡◌, ◌≢◌, ℕ, ◌+◌, ◌<◌, List,
 use Rattle.std.specs.List.{AllByRecursion}
 use Rattle.sample_buf.specs.declared.format.Format.{Format}
 use Rattle.sample_buf.specs.declared.waves.Wave.{Wave}
-use Rattle.sample_buf.specs.Chunks.{Chunk, IsRiff, HasHead, HasChunk, HasChunks}
+use Rattle.sample_buf.specs.Chunks.{Chunk, IsRiff, IsNoRiff, HasHead, HasChunk, HasChunks}
 use Rattle.sample_buf.specs.Formats.{format_name, SaysFormat, SaysNone, HaveNoFormat, LastSays}
 use Rattle.sample_buf.specs.Frames.{frames_of}
 
@@ -59,6 +59,6 @@ pub data Stops (chunks : List Chunk) (rest : List ℕ) : Type 0 where
 -- The file is no wave, and this is where: at its first byte where it is no RIFF WAVE file, else where
 -- the rest begins that stops, which is the end of the file where nothing is left.
 pub data IsFault (file : List ℕ) (at : ℕ) : Type 0 where
-  no_riff : ((all : List ℕ) → IsRiff file all → ⊥) → at ≡ 0 → IsFault file at
+  no_riff : IsNoRiff file → at ≡ 0 → IsFault file at
   stops : {chunks : List Chunk} {rest : List ℕ} → Opens file chunks rest → Stops chunks rest →
       at + length rest ≡ length file → IsFault file at

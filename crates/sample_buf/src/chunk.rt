@@ -1,13 +1,13 @@
 //! The chunks of a RIFF file.
 
-ghost use Rattle.std.specs.Prelude.{◌≡◌, ℕ, ◌%◌, ◌<◌, List, length, drop, MatchOption};
-ghost use Rattle.sample_buf.specs.Chunks.{IsRiff, HasHead};
+ghost use Rattle.std.specs.Prelude.{◌≡◌, ◌%◌, ◌<◌, length, drop, MatchOption};
+ghost use Rattle.sample_buf.specs.Chunks.{IsRiff, IsNoRiff, HasHead};
 
 use byteorder::{ByteOrder, LittleEndian};
 
 /// The bytes of the chunks of a RIFF WAVE file, or none where the file is no such one.
 pub(crate) fn riff_chunks(file: &[u8]) -> Option<&[u8]>
-    ensures { MatchOption result ((chunks : List ℕ) → IsRiff file.now chunks → ⊥) (λ chunks. IsRiff file.now chunks.now) }
+    ensures { MatchOption result (IsNoRiff file.now) (λ chunks. IsRiff file.now chunks.now) }
 {
     let (_, behind) = file.strip_prefix(b"RIFF".as_slice())?.split_at_checked(4)?;
     behind.strip_prefix(b"WAVE".as_slice())
@@ -28,7 +28,11 @@ impl<'a> Head<'a> {
     {
         let (name, rest) = bytes.split_at_checked(4)?;
         let (size, behind) = rest.split_at_checked(4)?;
-        Some(Head { name, size: LittleEndian::read_u32(size), behind })
+        Some(Head {
+            name,
+            size: LittleEndian::read_u32(size),
+            behind,
+        })
     }
 }
 

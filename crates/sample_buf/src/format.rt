@@ -55,7 +55,12 @@ fn of_one_channel(alloc: Global, bytes: &[u8]) -> Result<Vec<i16>, Memory>
     ensures { IfOk result (λ frames. frames.items ≡ map sample_of (whole_frames 2 bytes.now)) }
 {
     let (samples, _) = bytes.as_chunks::<2>();
-    Ok(samples.iter().map(|sample| LittleEndian::read_i16(sample)).collect(alloc)?)
+    Ok(
+        samples
+            .iter()
+            .map(|sample| LittleEndian::read_i16(sample))
+            .collect(alloc)?,
+    )
 }
 
 /// The frames of two channels.

@@ -7,9 +7,13 @@
 mod chunk;
 mod fault;
 mod format;
+pub mod laws;
 mod reading;
 mod waves;
 
 pub use fault::WaveFault;
 pub use reading::wave;
 pub use waves::{MAX_WAVE_BYTES, Wave};
+
+#[cfg(test)]
+mod tests;

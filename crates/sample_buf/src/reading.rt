@@ -34,7 +34,9 @@ fn find_samples(file: &[u8]) -> Result<Samples<'_>, u32>
             let Some(format) = format else {
                 return Err(at);
             };
-            let (bytes, _) = head.behind.split_at(head.behind.len().min(head.size as usize));
+            let (bytes, _) = head
+                .behind
+                .split_at(head.behind.len().min(head.size as usize));
             return Ok(Samples { format, bytes });
         }
         let Some((body, behind)) = head.behind.split_at_checked(head.size as usize) else {
@@ -68,7 +70,10 @@ pub fn wave(alloc: Global, file: &[u8]) -> Result<Wave, WaveFault>
     match find_samples(file) {
         Ok(Samples { format, bytes }) => {
             let frames = format.frames(alloc, bytes)?;
-            Ok(Wave { rate: format.rate, frames: List::from_vec(frames) })
+            Ok(Wave {
+                rate: format.rate,
+                frames: List::from_vec(frames),
+            })
         }
         Err(at) => Err(WaveFault::Wave { at }),
     }

@@ -1,8 +1,6 @@
-use Rattle.std.proofs.Common.{◌≡◌, get_or, take, drop, ◌∙◌, ap, sym, refl, arith, rules}
-use Rattle.std.proofs.lemmas.List.{get_or-take}
+use Rattle.std.proofs.Common.{drop, ◌∙◌, rules}
 use mir.Syntax.{w16}
-use mir.Val.{SFits, to_z}
-use Rattle.sample_buf.specs.Frames.{sample_of}
+use mir.Val.{SFits}
 use Rattle.sample_buf.proofs.Halves.{half_is, in_part}
 use Rattle.sample_buf.proofs.format.half.Goals as goal
 

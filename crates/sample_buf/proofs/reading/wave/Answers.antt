@@ -1,6 +1,4 @@
-use Rattle.std.proofs.Common.{Ok, Err, Result, ℕ, ap, sym, ◌∙◌, refl}
-use Rattle.sample_buf.specs.Waves.{IsWave}
-use Rattle.sample_buf.specs.declared.waves.Wave.{Wave}
+use Rattle.std.proofs.Common.{Err, ℕ, ap, ◌∙◌, refl}
 use Rattle.sample_buf.specs.declared.fault.WaveFault.TheVariants as WaveFault
 use Rattle.sample_buf.proofs.Readings.{one_wave, one_fault, samples_or_fault}
 use Rattle.sample_buf.proofs.reading.wave.Goals as goal

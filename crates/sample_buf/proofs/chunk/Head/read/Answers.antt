@@ -1,7 +1,4 @@
-use Rattle.std.proofs.Common.{◌≡◌, ℕ, List, ◌++◌, take, drop, sym, ap, ◌∙◌, arith, refl}
-use Rattle.std.proofs.lemmas.List.{take-append-drop, get_or-drop, get_or-take}
-use Rattle.byteorder.specs.Endian.{little_number}
-use Rattle.sample_buf.proofs.Fields.{IsBytes, bytes_behind, bytes_in_front}
+use Rattle.std.proofs.Common.{arith}
 use Rattle.sample_buf.proofs.Heads.{head_found}
 use Rattle.sample_buf.proofs.chunk.Head.read.Goals as goal
 

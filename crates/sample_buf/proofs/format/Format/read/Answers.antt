@@ -1,5 +1,5 @@
 use Rattle.std.proofs.Common.{arith}
-use Rattle.sample_buf.proofs.Fields.{HasNumbers, read_format, fit_numbers}
+use Rattle.sample_buf.proofs.Fields.{read_format, fit_numbers}
 use Rattle.sample_buf.proofs.format.Format.read.Goals as goal
 use Rattle.sample_buf.proofs.format.Format.read.Goals.{then-coding-ne1-via-then-coding-ne1, then-coding-ne1-via-else-coding-ne1+then-bits-ne16, then-coding-ne1-via-else-coding-ne1+else-bits-ne16+then-channels-lt1, then-coding-ne1-via-else-coding-ne1+else-bits-ne16+else-channels-lt1+then-channels-gt2}
 
