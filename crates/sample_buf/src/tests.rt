@@ -8,13 +8,16 @@ use std::alloc::Global;
 use std::test::Fail;
 
 /// One channel at 44,100 frames a second: 16384, -16384.
-const TWO_FRAMES: &[u8] =
-    b"RIFF\x28\0\0\0WAVEfmt \x10\0\0\0\x01\0\x01\0\x44\xac\0\0\x88\x58\x01\0\x02\0\x10\0data\x04\0\0\0\0\x40\0\xc0";
+const TWO_FRAMES: &[u8] = b"RIFF\x28\0\0\0WAVE\
+    fmt \x10\0\0\0\x01\0\x01\0\x44\xac\0\0\x88\x58\x01\0\x02\0\x10\0\
+    data\x04\0\0\0\0\x40\0\xc0";
 
 /// Two channels at 8,000: a format of 18 bytes, a chunk of odd size with its padding, samples of a
 /// size past the end, and three bytes behind the last whole frame.
-const TWO_CHANNELS: &[u8] =
-    b"RIFF\xff\xff\xff\xffWAVEfmt \x12\0\0\0\x01\0\x02\0\x40\x1f\0\0\0\x7d\0\0\x04\0\x10\0\0\0LIST\x03\0\0\0abc\0data\xff\xff\xff\xff\x01\0\xfe\xff\xff\x7f\xff\x7f\0\x80\xff\x7f\x07\0\x07";
+const TWO_CHANNELS: &[u8] = b"RIFF\xff\xff\xff\xffWAVE\
+    fmt \x12\0\0\0\x01\0\x02\0\x40\x1f\0\0\0\x7d\0\0\x04\0\x10\0\0\0\
+    LIST\x03\0\0\0abc\0\
+    data\xff\xff\xff\xff\x01\0\xfe\xff\xff\x7f\xff\x7f\0\x80\xff\x7f\x07\0\x07";
 
 /// The rate and the frames of a wave of few bytes.
 fn read(alloc: Global, file: &[u8]) -> Result<(u32, Vec<i16>), WaveFault>
@@ -134,8 +137,11 @@ fn formats_that_are_not_played(rt: HostRuntime) {
 }
 
 /// Two formats, of which the second counts: two channels at 8,000, then one at 192,000.
-const TWO_FORMATS: &[u8] =
-    b"RIFF\0\0\0\0WAVEfmt \x10\0\0\0\x01\0\x02\0\x40\x1f\0\0\0\0\0\0\0\0\x10\0fmt \x10\0\0\0\x01\0\x01\0\0\xee\x02\0\0\0\0\0\0\0\x10\0data\x05\0\0\0\x01\0\xff\xff\x07data\x02\0\0\0\x09\0";
+const TWO_FORMATS: &[u8] = b"RIFF\0\0\0\0WAVE\
+    fmt \x10\0\0\0\x01\0\x02\0\x40\x1f\0\0\0\0\0\0\0\0\x10\0\
+    fmt \x10\0\0\0\x01\0\x01\0\0\xee\x02\0\0\0\0\0\0\0\x10\0\
+    data\x05\0\0\0\x01\0\xff\xff\x07\
+    data\x02\0\0\0\x09\0";
 
 #[test]
 fn the_last_format_and_the_first_samples(rt: HostRuntime) -> Result<(), Fail> {
