@@ -62,6 +62,8 @@ pub fn wave(alloc: Global, file: &[u8]) -> Result<Wave, WaveFault>
     ensures ok { IfOk result (IsWave file.now) }
     ensures fault { (at : _) → result ≡ Err (WaveFault.Wave at) → IsFault file.now at }
 
+    ensures memory { result ≡ Err (WaveFault.Memory out_of_memory) → (wave : _) × IsWave file.now wave }
+
     // What is a wave is answered with it, and what has a fault with that fault.
     ensures reads { (wave : _) → IsWave file.now wave →
         MatchResult result (λ answer. answer ≡ wave) (λ fault. fault ≡ WaveFault.Memory out_of_memory) }
