@@ -48,7 +48,8 @@ pub apply_all-requires : goal.apply_all-requires
 apply_all-requires c =
     let some = c.requires.can_run in
     let scene = scene_at c.args.self.now c.slice_of.new.self c.args.number c.in-Some.stop c.slice_of.new.acts
-    some.run some.stands some.so (of_some (λ stop. Ran stop c.args.number c.args.self.now c.slice_of.new.self c.slice_of.new.acts)
+    some.run some.stands some.so (of_some (λ stop. Ran stop c.args.number c.args.self.now c.slice_of.new.self
+    c.slice_of.new.acts)
     _ _ c.in-Some.is c.in_ok-stop.ensures.ran) in
     record {
       orderly = before_acts _ _ _ _ _ _ scene;
@@ -88,7 +89,8 @@ pub carry_out-requires : goal.carry_out-requires
 carry_out-requires c =
     let some = c.requires.can_run in
     let scene = scene_at c.args.self.now c.slice_of.new.self c.args.number c.in-Some.stop c.slice_of.new.acts
-    some.run some.stands some.so (of_some (λ stop. Ran stop c.args.number c.args.self.now c.slice_of.new.self c.slice_of.new.acts)
+    some.run some.stands some.so (of_some (λ stop. Ran stop c.args.number c.args.self.now c.slice_of.new.self
+    c.slice_of.new.acts)
     _ _ c.in-Some.is c.in_ok-stop.ensures.ran) in
     let m3 = c.apply_all.new.self in
     let acted = acted_is _ _ _ _ _ _ scene m3 c.in_ok-apply_all.ensures.becomes in

@@ -9,7 +9,8 @@ down-init c = Itself
 
 pub down-smaller : goal.down-smaller
 down-smaller c =
-    let lt : c.down.at < c.in-Some.child = (first_child c.self.inside.live c.self.inside.children c.self.invariant c.down.at _
+    let lt : c.down.at < c.in-Some.child = (first_child c.self.inside.live c.self.inside.children c.self.invariant
+    c.down.at _
     (sym c.first_of.ensures ∙ c.in-Some.is)).later in
     let fits : c.in-Some.child < 2 ^ 64 = search rules in
     omega (arith, lt, fits)
