@@ -98,6 +98,18 @@ for (0 => int i; i < 1000; i++) { 1::samp => now; e.broadcast(); }
 """
 
 
+CHILDREN = """fun void child() { 1::day => now; }
+fun void parent() {
+    for (0 => int i; i < 100; i++) {
+        for (0 => int j; j < 1000; j++) spork ~ child();
+        1::samp => now;
+    }
+}
+spork ~ parent();
+200::samp => now;
+"""
+
+
 def voices(declared, many=100, samples=441_000):
     """A text of so many voices, each behind a declaration of its own."""
     made = "".join(declared.format(k) + "\n" for k in range(many))
@@ -210,6 +222,7 @@ GROUPS = {
         "broadcasts": stats(
             1002, "an event with 4,096 waiters, broadcast 1,000 times", BROADCAST, is_for_chuck=False
         ),
+        "children": stats(300, "a shred ends, and its 100,000 children", CHILDREN, is_for_chuck=False),
     },
     "graph": {
         "sine": sounds(
