@@ -1,5 +1,5 @@
 ghost use Rattle.std.specs.Prelude.{◌≡◌, ◌<◌, ◌≤◌, ◌+◌, ◌-◌, ◌^◌, ◌↔◌, [], ◌∷◌, ◌++◌, length, Some};
-ghost use Rattle.std.specs.Prelude.{List, slice_get, slice_set, IsSome, IsNone, IsErr, IsSomeAnd};
+ghost use Rattle.std.specs.Prelude.{List, slice_get, slice_set, IsSome, IsNone, IsErr, IsSomeAnd, IsTrue};
 ghost use Rattle.std.specs.Prelude.{IfSome, IfNone, IfOk, IfErr, OnOk, OnErr};
 ghost use Rattle.ck_base.specs.declared.limits.TheConstants.{MAX_OBJECTS};
 ghost use Rattle.ck_values.specs.declared.reference.Ref.{Ref};
@@ -96,10 +96,11 @@ impl CountedHeap {
         }
     }
 
-    /// The body of a live object.
+    /// The body of a live object. What its fields or items refer to has a count, so it can be held.
     pub fn body(&self, at: Ref) -> &Body
         requires { IsSome (object self.now at) }
-        ensures { object self.now at ≡ Some result.now }
+        ensures found { object self.now at ≡ Some result.now }
+        ensures counted { (r : Ref) → places r (values_of result.now) ≤ count self.now r }
     {
         &self.cells.get(at.slot).unwrap().body
     }
@@ -193,11 +194,12 @@ impl CountedHeap {
         }
     }
 
-    // One hold less of what a value refers to.
-    fn let_go(&mut self, v: &Value)
+    /// One hold less of what a value refers to. It takes no memory.
+    pub fn let_go(&mut self, v: &Value)
         requires { IsAmong self.old v.now }
         ensures holds { Leaves self.old self.new v.now }
         ensures objects { SameObjects self.old self.new }
+        ensures stands { StandsOn self.old self.new (λ s. s) }
     {
         if let Value::Ref(at) = v {
             if at.serial != 0 {
@@ -206,11 +208,12 @@ impl CountedHeap {
         }
     }
 
-    // One hold less of what each of the values refers to.
-    fn let_all_go(&mut self, vs: &[Value])
+    /// One hold less of what each of the values refers to. It takes no memory.
+    pub fn let_all_go(&mut self, vs: &[Value])
         requires { AreAmong self.old vs.now }
         ensures holds { (r : Ref) → outside self.new r + places r vs.now ≡ outside self.old r }
         ensures objects { SameObjects self.old self.new }
+        ensures stands { StandsOn self.old self.new (λ s. s) }
     {
         for v in vs {
             self.let_go(v);
@@ -250,6 +253,13 @@ impl CountedHeap {
         let body = self.take()?;
         self.let_all_go(body.values());
         Some(body)
+    }
+
+    /// Whether as many objects were made as may be.
+    pub fn is_full(&self) -> bool
+        ensures { IsTrue result ↔ (MAX_OBJECTS < self.now.next) }
+    {
+        self.next > MAX_OBJECTS
     }
 
     /// How many objects are live: those that were made and haven't been reaped.

@@ -1,5 +1,5 @@
--- Arrays by what the bodies of a heap stand for.
-use Rattle.std.proofs.Common.{◌≡◌, ℕ, ℤ, zero, suc, pos, negsuc, ◌-◌, ◌≤◌, ◌<◌, nat_lt, true, false, Bool, List, length, map, Option, Some, None, IfSome, IfNone, is_some, refl, ap, sym, subst, ◌∙◌, arith, slice_get, slice_set}
+-- What is read of arrays, by what their items stand for.
+use Rattle.std.proofs.Common.{◌≡◌, ℕ, ℤ, zero, suc, pos, negsuc, ◌≤◌, ◌<◌, nat_lt, true, false, Bool, List, length, Option, Some, None, IfSome, IfNone, is_some, refl, ap, sym, subst, ◌∙◌, arith, slice_get, slice_set}
 use Rattle.std.specs.Option.{option_map}
 use Rattle.std.proofs.lemmas.Bool.Decides.{nat_tests}
 use Rattle.std.proofs.lemmas.List.{length-map, map-set}
@@ -10,13 +10,15 @@ use Rattle.ck_values.specs.declared.trap.Trap.{Trap}
 use Rattle.ck_values.specs.declared.trap.Trap.TheVariants.{NullPointer, ArrayOutOfBounds}
 use Rattle.ck_values.specs.declared.value.Value.{Value}
 use Rattle.ck_values.specs.Datum.{Datum, AnInt, ARef, meant, all_meant}
-use Rattle.ck_store.specs.Store.{Object, Gives, Fails, IsFitting}
+use Rattle.ck_store.specs.Store.{Object, Items, Store, Gives, Fails}
 use Rattle.ck_store.specs.Steps.{and_then}
 use Rattle.ck_store.specs.Arrays.{Line, line_of, array_at, there, item_at, item_of, item_count, is_within, has_item}
-use Rattle.object_heap.specs.declared.body.Body.{Body}
-use Rattle.object_heap.specs.declared.body.Body.TheVariants.{Instance, Array, Ugen}
-use Rattle.object_heap.specs.Objects.{Objects, object}
-use Rattle.value_ops.specs.Heaps.{shown_body, objects_of, IsArrayOf}
+use Rattle.object_heap.specs.declared.body.Body.TheVariants.{Array}
+use Rattle.counted_heap.specs.Places.{hits, places}
+use Rattle.counted_heap.specs.Counted.{Counted, count}
+use Rattle.counted_heap.proofs.Counting.{places-get}
+use Rattle.value_ops.specs.Heaps.{HasObjects, IsArrayOf, CanBeHeld}
+use Rattle.value_ops.proofs.Has.{IsAt, object_at}
 
 pub length_meant : (values : List Value) → length (all_meant values) ≡ length values
 length_meant values = length-map values meant
@@ -33,118 +35,47 @@ set_meant values i v = map-set meant values i v
 pub of_found : {A : Type 0} (o : Option A) (a : A) (P : A → Type 0) → o ≡ Some a → IfSome o P → P a
 of_found o a P is holds = subst (λ o. IfSome o P) is holds
 
--- objects by their numbers ------------------------------------------------------------------------
-
--- the objects from number 1 on
-abbrev from_one : List Body → Objects
-from_one bodies = record { first = 1; bodies = bodies }
-
-from_one_at : (bodies : List Body) (r : Ref) (n : ℕ) → r.serial ≡ suc n
-    → object (from_one bodies) r ≡ slice_get bodies n
-from_one_at bodies r n serial =
-    let here : slice_get bodies (r.serial - 1) ≡ slice_get bodies n =
-    ap (slice_get bodies) (omega (arith, serial)) in
-    let later : nat_lt r.serial 1 ≡ false = grind (arith, nat_tests, serial) in
-    rw later here
-
-pub object_at : (heap : Objects) (r : Ref) (n : ℕ) → heap.first ≡ 1 → r.serial ≡ suc n
-    → object heap r ≡ slice_get heap.bodies n
-object_at heap r n first serial =
-    ap (λ k. object (record { first = k; bodies = heap.bodies }) r) first
-    ∙ from_one_at heap.bodies r n serial
-
-from_one_none : (bodies : List Body) (r : Ref) → r.serial ≡ 0 → object (from_one bodies) r ≡ None
-from_one_none bodies r serial =
-    let before : nat_lt r.serial 1 ≡ true = grind (arith, nat_tests, serial) in rw before refl
-
-object_none : (heap : Objects) (r : Ref) → heap.first ≡ 1 → r.serial ≡ 0 → object heap r ≡ None
-object_none heap r first serial =
-    ap (λ k. object (record { first = k; bodies = heap.bodies }) r) first
-    ∙ from_one_none heap.bodies r serial
-
--- where an object's body is
-pub record IsAt (bodies : List Body) (r : Ref) (b : Body) : Type 0 where
-  pub number : ℕ
-  pub serial : r.serial ≡ suc number
-  pub here : slice_get bodies number ≡ Some b
-
-is_at_so : (heap : Objects) (r : Ref) (b : Body) (s : ℕ) → r.serial ≡ s → heap.first ≡ 1
-    → object heap r ≡ Some b → IsAt heap.bodies r b
-is_at_so heap r b zero serial first found =
-    let none = object_none heap r first serial in absurd (cc)
-is_at_so heap r b (suc n) serial first found =
-    record { number = n; serial = serial; here = sym (object_at heap r n first serial) ∙ found }
-
-pub is_at : (heap : Objects) (r : Ref) (b : Body) → heap.first ≡ 1 → object heap r ≡ Some b
-    → IsAt heap.bodies r b
-is_at heap r b first found = is_at_so heap r b r.serial refl first found
-
 -- arrays ------------------------------------------------------------------------------------------
 
 -- an array as a step sees it
 abbrev pub line : Elem → Bool → List Value → Line
 line e b items = record { elem = e; of_arrays = b; items = all_meant items }
 
-array_so : (bodies : List Body) (r : Ref) (n : ℕ) → r.serial ≡ suc n
-    → array_at (map shown_body bodies) (ARef r.serial)
-    ≡ line_of (option_map shown_body (slice_get bodies n))
+array_in : (objects : List Object) (r : Ref) (e : Elem) (b : Bool) (items : List Value)
+    → IsAt objects r (Items e b (all_meant items))
+    → array_at objects (ARef r.serial) ≡ Gives (line e b items)
 unfolding array_at
-array_so bodies r n serial =
-    ap (λ s. array_at (map shown_body bodies) (ARef s)) serial
-    ∙ ap line_of (slice_get-map shown_body bodies n)
+array_in objects r e b items at =
+    ap (λ s. array_at objects (ARef s)) at.serial ∙ ap line_of at.here
 
-pub array_is : (heap : Objects) (r : Ref) (items : List Value) → heap.first ≡ 1
-    → (a : IsArrayOf heap r items)
-    → array_at (objects_of heap) (ARef r.serial) ≡ Gives (line a.elem a.two items)
-array_is heap r items first a =
-    let at = is_at heap r (Array a.elem a.two items) first a.is in
-    array_so heap.bodies r at.number at.serial
-    ∙ ap (λ o. line_of (option_map shown_body o)) at.here
+pub array_is : (heap : Counted) (store : Store) (r : Ref) (items : List Value)
+    → HasObjects heap store → (a : IsArrayOf heap r items)
+    → array_at store.objects (ARef r.serial) ≡ Gives (line a.elem a.two items)
+array_is heap store r items has a =
+    array_in store.objects r a.elem a.two items
+    (object_at heap store r (Array a.elem a.two items) has a.is)
 
 -- null is no array
-pub null_is : (objects : List Object) (s : ℕ) → s ≡ 0
-    → array_at objects (ARef s) ≡ Fails NullPointer
+pub null_is : (objects : List Object) (r : Ref) (trap : Trap) → trap ≡ NullPointer → r.serial ≡ 0
+    → array_at objects (ARef r.serial) ≡ Fails trap
 unfolding array_at
-null_is objects s is = ap (λ n. array_at objects (ARef n)) is
-
--- what isn't null, and can be taken as an array, is one
-pub record Held (heap : Objects) (r : Ref) : Type 0 where
-  pub items : List Value
-  pub is : IsArrayOf heap r items
-
-held_so : (heap : Objects) (r : Ref) (o : Option Body) → object heap r ≡ o
-    → IsFitting (line_of (option_map shown_body o)) → Held heap r
-held_so heap r None is fits = absurd fits
-held_so heap r (Some (Instance class fields)) is fits = absurd fits
-held_so heap r (Some (Array elem two items)) is fits =
-    record { items = items; is = record { elem = elem; two = two; is = is } }
-held_so heap r (Some (Ugen node)) is fits = absurd fits
-
-held_as : (heap : Objects) (r : Ref) (s : ℕ) → r.serial ≡ s → heap.first ≡ 1 → (s ≡ 0 → ⊥)
-    → IsFitting (array_at (objects_of heap) (ARef r.serial)) → Held heap r
-held_as heap r zero serial first some fits = absurd (some refl)
-held_as heap r (suc n) serial first some fits =
-    held_so heap r (slice_get heap.bodies n) (object_at heap r n first serial)
-    (subst IsFitting (array_so heap.bodies r n serial) fits)
-
-pub held : (heap : Objects) (r : Ref) → heap.first ≡ 1 → (r.serial ≡ 0 → ⊥)
-    → IsFitting (array_at (objects_of heap) (ARef r.serial)) → Held heap r
-held heap r first some fits = held_as heap r r.serial refl first some fits
+null_is objects r trap is null =
+    ap (λ n. array_at objects (ARef n)) null ∙ ap Fails (sym is)
 
 -- items -------------------------------------------------------------------------------------------
 
-item_so : (heap : Objects) (r : Ref) (items : List Value) (d : Datum) → heap.first ≡ 1
-    → IsArrayOf heap r items
-    → item_of (objects_of heap) (ARef r.serial) d ≡ item_at (all_meant items) d
+item_so : (heap : Counted) (store : Store) (r : Ref) (items : List Value) (d : Datum)
+    → HasObjects heap store → IsArrayOf heap r items
+    → item_of store.objects (ARef r.serial) d ≡ item_at (all_meant items) d
 unfolding item_of
-item_so heap r items d first a =
-    ap (λ t. and_then t (λ line. item_at line.items d)) (array_is heap r items first a)
+item_so heap store r items d has a =
+    ap (λ t. and_then t (λ line. item_at line.items d)) (array_is heap store r items has a)
 
-pub item_null : (heap : Objects) (r : Ref) (d : Datum) (trap : Trap)
-    → array_at (objects_of heap) (ARef r.serial) ≡ Fails trap
-    → item_of (objects_of heap) (ARef r.serial) d ≡ Fails trap
+pub item_null : (objects : List Object) (r : Ref) (d : Datum) (trap : Trap) → trap ≡ NullPointer
+    → r.serial ≡ 0 → item_of objects (ARef r.serial) d ≡ Fails trap
 unfolding item_of
-item_null heap r d trap is = ap (λ t. and_then t (λ line. item_at line.items d)) is
+item_null objects r d trap is null =
+    ap (λ t. and_then t (λ line. item_at line.items d)) (null_is objects r trap is null)
 
 pub past_so : (i n : ℕ) → Gives (nat_lt i n) ≡ Gives false → n ≤ i
 past_so i n out = let so : nat_lt i n ≡ false = cc in grind (arith, nat_tests)
@@ -164,80 +95,84 @@ at_out items (pos i) out =
     ap there (slice_get-map meant items i ∙ ap (option_map meant) (slice_get_past items i past))
 at_out items (negsuc i) out = refl
 
-pub item_here : (heap : Objects) (r : Ref) (items : List Value) (z : ℤ) (i : ℕ) (v : Value)
-    → heap.first ≡ 1 → IsArrayOf heap r items → z ≡ pos i → slice_get items i ≡ Some v
-    → item_of (objects_of heap) (ARef r.serial) (AnInt z) ≡ Gives (meant v)
-item_here heap r items z i v first a is here =
-    item_so heap r items (AnInt z) first a ∙ at_here items z i v is here
+pub item_here : (heap : Counted) (store : Store) (r : Ref) (items : List Value) (z : ℤ) (i : ℕ)
+    (v : Value) → HasObjects heap store → IsArrayOf heap r items → z ≡ pos i
+    → slice_get items i ≡ Some v → item_of store.objects (ARef r.serial) (AnInt z) ≡ Gives (meant v)
+item_here heap store r items z i v has a is here =
+    item_so heap store r items (AnInt z) has a ∙ at_here items z i v is here
 
-pub item_out : (heap : Objects) (r : Ref) (items : List Value) (z : ℤ)
-    → heap.first ≡ 1 → IsArrayOf heap r items → is_within (AnInt z) (length items) ≡ Gives false
-    → item_of (objects_of heap) (ARef r.serial) (AnInt z) ≡ Fails ArrayOutOfBounds
-item_out heap r items z first a out = item_so heap r items (AnInt z) first a ∙ at_out items z out
+pub item_out : (heap : Counted) (store : Store) (r : Ref) (items : List Value) (z : ℤ)
+    → HasObjects heap store → IsArrayOf heap r items
+    → is_within (AnInt z) (length items) ≡ Gives false
+    → item_of store.objects (ARef r.serial) (AnInt z) ≡ Fails ArrayOutOfBounds
+item_out heap store r items z has a out =
+    item_so heap store r items (AnInt z) has a ∙ at_out items z out
+
+-- what an item refers to has a count, where what all items refer to has one
+pub item_held : (heap : Counted) (items : List Value) (i : ℕ) (v : Value)
+    → ((r : Ref) → places r items ≤ count heap r) → slice_get items i ≡ Some v → CanBeHeld heap v
+item_held heap items i v counted here = λ r.
+    let most = counted r in let one = places-get r items i v here in omega arith
 
 -- how many there are ------------------------------------------------------------------------------
 
-pub count_is : (heap : Objects) (r : Ref) (items : List Value) (n : ℕ) → heap.first ≡ 1
-    → IsArrayOf heap r items → n ≡ length items
-    → item_count (objects_of heap) (ARef r.serial) ≡ Gives (AnInt (pos n))
+pub count_is : (heap : Counted) (store : Store) (r : Ref) (items : List Value) (n : ℕ)
+    → HasObjects heap store → IsArrayOf heap r items → n ≡ length items
+    → item_count store.objects (ARef r.serial) ≡ Gives (AnInt (pos n))
 unfolding item_count
-count_is heap r items n first a is =
+count_is heap store r items n has a is =
     ap (λ t. and_then t (λ line. Gives (AnInt (pos (length line.items)))))
-    (array_is heap r items first a)
+    (array_is heap store r items has a)
     ∙ ap (λ k. Gives (AnInt (pos k))) (length_meant items ∙ sym is)
 
-pub count_null : (heap : Objects) (r : Ref) (trap : Trap)
-    → array_at (objects_of heap) (ARef r.serial) ≡ Fails trap
-    → item_count (objects_of heap) (ARef r.serial) ≡ Fails trap
+pub count_null : (objects : List Object) (r : Ref) (trap : Trap) → trap ≡ NullPointer
+    → r.serial ≡ 0 → item_count objects (ARef r.serial) ≡ Fails trap
 unfolding item_count
-count_null heap r trap is =
-    ap (λ t. and_then t (λ line. Gives (AnInt (pos (length line.items))))) is
+count_null objects r trap is null =
+    ap (λ t. and_then t (λ line. Gives (AnInt (pos (length line.items)))))
+    (null_is objects r trap is null)
 
-has_so : (heap : Objects) (r : Ref) (items : List Value) (d : Datum) → heap.first ≡ 1
-    → IsArrayOf heap r items
-    → has_item (objects_of heap) (ARef r.serial) d ≡ is_within d (length items)
+has_so : (heap : Counted) (store : Store) (r : Ref) (items : List Value) (d : Datum)
+    → HasObjects heap store → IsArrayOf heap r items
+    → has_item store.objects (ARef r.serial) d ≡ is_within d (length items)
 unfolding has_item
-has_so heap r items d first a =
-    ap (λ t. and_then t (λ line. is_within d (length line.items))) (array_is heap r items first a)
+has_so heap store r items d has a =
+    ap (λ t. and_then t (λ line. is_within d (length line.items)))
+    (array_is heap store r items has a)
     ∙ ap (is_within d) (length_meant items)
 
-pub has_null : (heap : Objects) (r : Ref) (d : Datum) (trap : Trap)
-    → array_at (objects_of heap) (ARef r.serial) ≡ Fails trap
-    → has_item (objects_of heap) (ARef r.serial) d ≡ Fails trap
+pub has_null : (objects : List Object) (r : Ref) (d : Datum) (trap : Trap) → trap ≡ NullPointer
+    → r.serial ≡ 0 → has_item objects (ARef r.serial) d ≡ Fails trap
 unfolding has_item
-has_null heap r d trap is =
-    ap (λ t. and_then t (λ line. is_within d (length line.items))) is
+has_null objects r d trap is null =
+    ap (λ t. and_then t (λ line. is_within d (length line.items))) (null_is objects r trap is null)
 
-pub has_at : (heap : Objects) (r : Ref) (items : List Value) (z : ℤ) (i : ℕ)
-    → heap.first ≡ 1 → IsArrayOf heap r items → z ≡ pos i → i < length items
-    → has_item (objects_of heap) (ARef r.serial) (AnInt z) ≡ Gives true
+has_at : (heap : Counted) (store : Store) (r : Ref) (items : List Value) (z : ℤ) (i : ℕ)
+    → HasObjects heap store → IsArrayOf heap r items → z ≡ pos i → i < length items
+    → has_item store.objects (ARef r.serial) (AnInt z) ≡ Gives true
 unfolding is_within
-has_at heap r items z i first a is within =
+has_at heap store r items z i has a is within =
     let so : nat_lt i (length items) ≡ true = grind (arith, nat_tests) in
-    has_so heap r items (AnInt z) first a
+    has_so heap store r items (AnInt z) has a
     ∙ ap (λ z. is_within (AnInt z) (length items)) is ∙ ap Gives so
 
-pub has_out : (heap : Objects) (r : Ref) (items : List Value) (z : ℤ)
-    → heap.first ≡ 1 → IsArrayOf heap r items → is_within (AnInt z) (length items) ≡ Gives false
-    → has_item (objects_of heap) (ARef r.serial) (AnInt z) ≡ Gives false
-has_out heap r items z first a out = has_so heap r items (AnInt z) first a ∙ out
-
 -- whether it names one of the items
-pub has_where : (heap : Objects) (r : Ref) (items : List Value) (z : ℤ) (place : Option ℕ)
-    → heap.first ≡ 1 → IsArrayOf heap r items
+pub has_where : (heap : Counted) (store : Store) (r : Ref) (items : List Value) (z : ℤ)
+    (place : Option ℕ) → HasObjects heap store → IsArrayOf heap r items
     → IfSome place (λ i. (z ≡ pos i) × (i < length items))
     → IfNone place (is_within (AnInt z) (length items) ≡ Gives false)
-    → has_item (objects_of heap) (ARef r.serial) (AnInt z) ≡ Gives (is_some place)
-has_where heap r items z None first a some none = has_out heap r items z first a none
-has_where heap r items z (Some i) first a some none = has_at heap r items z i first a some.0 some.1
+    → has_item store.objects (ARef r.serial) (AnInt z) ≡ Gives (is_some place)
+has_where heap store r items z None has a some none =
+    has_so heap store r items (AnInt z) has a ∙ none
+has_where heap store r items z (Some i) has a some none =
+    has_at heap store r items z i has a some.0 some.1
 
 pub ruleset items = (
   item_here,
   item_out,
   item_null,
+  item_held,
   count_is,
   count_null,
-  has_at,
-  has_out,
   has_null,
 )
