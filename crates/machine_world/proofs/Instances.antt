@@ -1,7 +1,6 @@
 -- Instances that are held are live, and are what each store has; objects that are made.
-use Rattle.std.proofs.lemmas.Bool.{cases_eq}
-use Rattle.std.proofs.Common.{◌≡◌, ◌≢◌, inl, inr, ℕ, suc, ◌+◌, ◌<◌, ◌≤◌, List, [], ◌∷◌, ◌++◌, map, length, Option, Some, None, IsSome, slice_get, slice_set, refl, ap, sym, subst, ◌∙◌, arith}
-use Rattle.std.specs.Prelude.{IfSome}
+use Rattle.std.proofs.Common.{◌≡◌, ◌≢◌, true, Result, Ok, Err, IfOk, ℕ, suc, ◌+◌, ◌<◌, ◌≤◌, List, [], ◌∷◌, ◌++◌, map, length, Option, Some, None, IsSome, slice_get, slice_set, refl, ap, sym, subst, ◌∙◌, arith}
+use Rattle.std.specs.Prelude.{OnErr}
 use Rattle.ck_base.specs.declared.limits.TheConstants.{MAX_OBJECTS}
 use Rattle.ck_values.specs.declared.kind.Elem.TheVariants as elem
 use Rattle.ck_values.specs.declared.kind.Kind.{Kind}
@@ -30,12 +29,14 @@ use Rattle.value_ops.specs.declared.end.OpEnd.TheVariants.{Trap, Memory}
 use Rattle.value_ops.specs.Ends.{IsEnd, IsGiven, OnTrap, OnWant}
 use Rattle.value_ops.specs.Heaps.{shown_body, HasObjects, HasAfter, KeepsUnits, CanBeHeld}
 use Rattle.value_ops.proofs.Has.{IsAt, object_at, put, push, added_not, added_given, after_so}
-use Rattle.machine_world.specs.Held.{IsHeld}
+use Rattle.ugen_graph.specs.declared.link.Link.{Link}
+use Rattle.machine_world.specs.Held.{IsHeld, OwnsHeld}
+use Rattle.machine_world.specs.Units.{AreJoined}
 use Rattle.machine_world.specs.Tries.{CanDo, Answers, Refuses, Ends, Does}
 use Rattle.machine_world.specs.Worlds.{Parts, StandsFor}
 use Rattle.machine_world.proofs.Kept.{meant_firsts}
 use Rattle.machine_world.proofs.Numbered.{length-meant, get_meant, set_meant, replaced_within}
-use Rattle.machine_world.proofs.Outside.{live_some}
+use Rattle.machine_world.proofs.Outside.{live_some, joined_kept}
 use Rattle.machine_world.proofs.Parts.{field_refers, field_null, field_within, field_is, set_refers, set_null, set_within, set_is, method_refers, method_null, class_within, slot_within, method_is}
 use Rattle.machine_world.proofs.Stands.{does_heap, ends_heap}
 
@@ -295,3 +296,33 @@ places-first r (k ∷ kinds) = omega (arith, hits-first r k, places-first r kind
 pub made_enters : (old new : Counted) (at : Ref) (b : Body) → Makes old new at b
     → ((r : Ref) → places r (values_of b) ≡ 0) → counted.Enters old new (To at)
 made_enters old new at b makes none r = omega (arith, makes.moves r, none r)
+
+-- where there is room there is an object
+pub added_gives : (inside world : Parts) (o : Object) (step : Store → Try Made) → inside ≡ world
+    → ((store : Store) → step store ≡ added o store) → inside.heap.next ≤ MAX_OBJECTS
+    → (store : Store) → StandsFor world store → IsGiven (step store)
+added_gives inside world o step is over few =
+    subst (λ (w : Parts). (store : Store) → StandsFor w store → IsGiven (step store)) is
+    (λ store stands.
+    subst (λ (t : Try Made). IsGiven t) (sym (over store))
+    (added_given inside.heap store o stands.heap few))
+
+-- what a world keeps where an object was wanted, whether it was made or not
+pub made_joined : {E : Type 0} (r : Result Ref E) (old new : Counted) (b : Body) (links : List Link)
+    → IfOk r (λ at. Makes old new at b) → OnErr r (new ≡ old) → AreJoined old links
+    → AreJoined new links
+made_joined (Ok at) old new b links makes same joined =
+    joined_kept old new links (units_made old new at b makes) joined
+made_joined (Err e) old new b links makes same joined =
+    subst (λ h. AreJoined h links) (sym same) joined
+
+pub made_owns : {E : Type 0} (r : Result Ref E) (inside : Parts) (new : Counted) (b : Body)
+    → IfOk r (λ at. Makes inside.heap new at b) → OnErr r (new ≡ inside.heap)
+    → ((q : Ref) → places q (values_of b) ≡ 0) → OwnsHeld inside
+    → OwnsHeld (record inside { heap = new })
+made_owns (Ok at) inside new b makes same none owns q =
+    omega (arith, makes.moves q, none q, owns q)
+made_owns (Err e) inside new b makes same none owns q =
+    let so = ap (λ h. counted.outside h q) same in omega (arith, so, owns q)
+
+pub ruleset making = (made_joined, made_owns)

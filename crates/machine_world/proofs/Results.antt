@@ -24,3 +24,8 @@ pub err_both : {T E : Type 0} (r : Result T E) (P Q R : E → Type 0)
     → ((e : E) → P e → Q e → R e) → IfErr r P → IfErr r Q → IfErr r R
 err_both (Ok x) P Q R go p q = tt
 err_both (Err e) P Q R go p q = go e p q
+
+pub ok_both : {T E : Type 0} (r : Result T E) (P : T → Type 0) (Q : Type 0) (R : T → Type 0)
+    → ((x : T) → P x → Q → R x) → IfOk r P → OnOk r Q → IfOk r R
+ok_both (Ok x) P Q R go p q = go x p q
+ok_both (Err e) P Q R go p q = tt
