@@ -3,6 +3,7 @@ use Rattle.std.proofs.lemmas.Option.{slice_get_read}
 use Rattle.std.proofs.lemmas.Result.{err_from_is_err_and}
 use Rattle.ck_base.specs.declared.limits.TheConstants.{MAX_OBJECTS}
 use Rattle.ck_code.proofs.Tables.{get_within}
+use Rattle.ck_values.specs.declared.reference.Ref.{Ref as Reference}
 use Rattle.ck_values.specs.declared.trap.Trap.TheVariants.{ObjectLimit}
 use Rattle.ck_values.specs.declared.value.Value.TheVariants.{Ref as To}
 use Rattle.ck_store.specs.Objects.{object_made}
@@ -11,6 +12,7 @@ use Rattle.object_heap.specs.declared.body.Body.TheVariants.{Instance}
 use Rattle.shred_state.specs.Values.{first_value}
 use Rattle.value_ops.specs.declared.end.OpEnd.TheVariants.{Trap}
 use Rattle.value_ops.specs.Heaps.{shown_body}
+use Rattle.machine_world.specs.contracts.world.World.{the_view}
 use Rattle.machine_world.proofs.Instances.{made_there, made_as, places-first, added_does, added_ends, added_gives, made_enters, made_joined, made_owns}
 use Rattle.machine_world.proofs.Outside.{entered}
 use Rattle.machine_world.proofs.Results.{ok_then, ok_both, err_both}
@@ -51,14 +53,14 @@ add_object-requires c = λ r. ap (places r) c.in_ok-fields.ensures ∙ places-fi
 pub invariant_of-self : goal.invariant_of-self
 invariant_of-self c =
     let body = Instance c.args.class c.in_ok-fields.fields in
-    let none = λ r. ap (places r) c.in_ok-fields.ensures ∙ places-first r _ in (
+    let none = λ (r : Reference). ap (places r) c.in_ok-fields.ensures ∙ places-first r _ in (
       c.self.invariant.0,
       c.self.invariant.1,
       c.self.invariant.2,
       made_joined c.add_object.result c.self.inside.heap c.add_object.new.heap body
           c.self.inside.graph.links c.add_object.ensures.made c.add_object.ensures.same
           c.self.invariant.3,
-      made_owns c.add_object.result _ c.add_object.new.heap body c.add_object.ensures.made
+      made_owns c.add_object.result (the_view c.self.inside) c.add_object.new.heap body c.add_object.ensures.made
           c.add_object.ensures.same none c.self.invariant.4,
     )
 
@@ -78,7 +80,7 @@ returns-clause-made c =
 
 pub returns-clause-holds : goal.returns-clause-holds
 returns-clause-holds c =
-    let none = λ r. ap (places r) c.in_ok-fields.ensures ∙ places-first r _ in
+    let none = λ (r : Reference). ap (places r) c.in_ok-fields.ensures ∙ places-first r _ in
     ok_then c.add_object.result _ _
     (λ at makes. entered _ _ c.add_object.new.heap c.self.view_is c.self.invariant.4 (To at)
     (made_enters _ _ at _ makes none)) c.add_object.ensures.made
