@@ -5,7 +5,7 @@ ghost use Rattle.machine_world.specs.Scenes.{CanRunIn, CarriesIn};
 
 use ck_code::Step;
 use fixed_point::Memory;
-use machine_world::{Stop, Then, World, copied, go_on, let_reference_go, reference};
+use machine_world::{Stop, Then, World, go_on, reference};
 use shred_state::Shred;
 use std::alloc::Global;
 use value_ops::OpEnd;
@@ -13,21 +13,26 @@ use value_ops::OpEnd;
 /// Puts an item in the place of its array and of the index on top of it, or stops by the trap.
 #[tactic(auto, using(machine_world::proofs::Operands::operands), unfolding(machine_world::specs::Shown::shown))]
 #[inline(always)]
-pub fn put_item(alloc: Global, at: &Step, shred: &mut Shred, world: &World) -> Result<Then, Memory>
+pub fn put_item(
+    alloc: Global,
+    at: &Step,
+    shred: &mut Shred,
+    world: &mut World,
+) -> Result<Then, Memory>
     requires is { at.now.instr ≡ Item }
-    requires can { CanRunIn world.now at.now shred.old }
+    requires can { CanRunIn world.old at.now shred.old }
     ensures carries { IfOk result (λ then.
-        CarriesIn world.now at.now then shred.old shred.new world.now) }
+        CarriesIn world.old at.now then shred.old shred.new world.new) }
 {
     let index = shred.pop();
     let array = reference(shred.peek());
-    match world.item(array, &index) {
+    match world.item(alloc, array, &index) {
         Ok(v) => {
-            let v = copied(alloc, v)?;
-            let_reference_go(shred.set_top(v));
+            world.let_go(shred.set_top(v));
             Ok(go_on(shred))
         }
-        Err(trap) => Ok(Then::Stopped(Stop::Trapped(trap, at.place))),
+        Err(OpEnd::Trap(trap)) => Ok(Then::Stopped(Stop::Trapped(trap, at.place))),
+        Err(OpEnd::Memory(memory)) => Err(memory),
     }
 }
 
@@ -48,9 +53,14 @@ pub fn set_item(
 {
     let index = shred.pop();
     let array = reference(&shred.pop());
-    let v = copied(alloc, shred.peek())?;
-    match world.set_item(array, &index, v) {
-        Ok(_old) => Ok(go_on(shred)),
+    let v = world.copied(alloc, shred.peek())?;
+    let set = world.set_item(array, &index, v);
+    world.let_reference_go(array);
+    match set {
+        Ok(old) => {
+            world.let_go(old);
+            Ok(go_on(shred))
+        }
         Err(trap) => Ok(Then::Stopped(Stop::Trapped(trap, at.place))),
     }
 }

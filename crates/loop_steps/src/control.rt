@@ -9,6 +9,8 @@ ghost use Rattle.ck_typed.specs.WellFormed.{FoundWhere};
 ghost use Rattle.shred_state.specs.Frames.{at_place, with_operands};
 ghost use Rattle.machine_world.specs.declared.acts.Act.{Act};
 ghost use Rattle.machine_world.specs.declared.course.Then.TheVariants.{GoesOn};
+ghost use Rattle.ck_values.specs.declared.reference.Ref.{Ref as Reference};
+ghost use Rattle.machine_world.specs.Held.{in_shred, Covers};
 ghost use Rattle.machine_world.specs.Shown.{operands_of};
 ghost use Rattle.machine_world.specs.Steps.{of_top, joined, IsAhead};
 ghost use Rattle.machine_world.specs.Scenes.{scene, CanRun, CanRunIn, CanRunAlone, Carries};
@@ -19,8 +21,8 @@ use ck_code::{CodeParts, Step};
 use ck_values::{Trap, Value};
 use fixed_point::Memory;
 use machine_world::{
-    Acts, Course, Stop, Then, World, fun_at, go_on_from, leave_function, let_float_go, let_int_go,
-    reference, wait_dur,
+    Acts, Course, Stop, Then, World, fun_at, go_on_from, leave_function, let_dur_go, let_float_go,
+    let_int_go, reference, wait_dur,
 };
 use shred_state::{EnterEnd, Shred};
 use std::alloc::Global;
@@ -48,6 +50,7 @@ pub fn jump_if_zero(shred: &mut Shred, here: usize, to: usize) -> Then
         (λ is. Gives (pick is to (here + 1))) ≡ Gives shred.new.top.place }
     ensures kept { let left = with_operands shred.old (drop 1 shred.old.top.operands) in
         shred.new ≡ at_place left shred.new.top.place }
+    ensures holds { (r : Reference) → in_shred r shred.new ≡ in_shred r shred.old }
 {
     let condition = shred.pop();
     if is_zero(&condition) {
@@ -79,35 +82,38 @@ pub fn turn(at: &Step, shred: &mut Shred, here: usize, stop: &mut Stop) -> Cours
 /// a float goes the short way.
 #[tactic(auto, using(machine_world::proofs::Operands::operands), unfolding(machine_world::specs::Shown::shown))]
 #[inline(always)]
-pub fn leave(at: &Step, shred: &mut Shred) -> Result<Then, Memory>
+pub fn leave(at: &Step, shred: &mut Shred, world: &mut World) -> Result<Then, Memory>
     requires is { at.now.instr ≡ Return }
-    requires can { CanRunAlone at.now shred.old }
-    ensures carries { IfOk result (λ then. CarriesAlone at.now then shred.old shred.new) }
+    requires can { CanRunIn world.old at.now shred.old }
+    ensures carries { IfOk result (λ then.
+        CarriesIn world.old at.now then shred.old shred.new world.new) }
 {
     if let Value::Int(n) = shred.peek() {
         let n = *n;
         let_int_go(shred.pop());
-        return give(at, shred, Value::Int(n));
+        return give(at, shred, world, Value::Int(n));
     }
     if let Value::Float(x) = shred.peek() {
         let x = *x;
         let_float_go(shred.pop());
-        return give(at, shred, Value::Float(x));
+        return give(at, shred, world, Value::Float(x));
     }
     let v = shred.pop();
-    give(at, shred, v)
+    give(at, shred, world, v)
 }
 
 // Gives a value to the frame beneath, as an instruction does which found it on the top; the first
 // function ends the shred.
 #[tactic(auto, unfolding(machine_world::specs::Shown::shown))]
 #[inline(always)]
-fn give(at: &Step, shred: &mut Shred, v: Value) -> Result<Then, Memory>
-    requires { at.now.instr ≡ Return }
+fn give(at: &Step, shred: &mut Shred, world: &mut World, v: Value) -> Result<Then, Memory>
+    requires is { at.now.instr ≡ Return }
+    requires covered { Covers world.old (with_operands shred.old (v ∷ shred.old.top.operands)) }
     ensures carries { let found = with_operands shred.old (v ∷ shred.old.top.operands) in
-        IfOk result (λ then. CarriesAlone at.now then found shred.new) }
+        IfOk result (λ then. CarriesIn world.old at.now then found shred.new world.new) }
 {
-    if !leave_function(shred) {
+    if !leave_function(shred, world) {
+        world.let_go(v);
         return Ok(Then::Stopped(Stop::Ended));
     }
     shred.push(v)?;
@@ -123,7 +129,7 @@ pub fn wait(at: &Step, shred: &mut Shred, world: &World) -> Then
     ensures carries { CarriesIn world.now at.now result shred.old shred.new world.now }
 {
     let until = wait_dur(shred.peek(), world);
-    shred.pop();
+    let_dur_go(shred.pop());
     match until {
         Ok(time) => {
             shred.go_on();

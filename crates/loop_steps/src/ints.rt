@@ -17,12 +17,14 @@ ghost use Rattle.machine_world.specs.Steps.{of_two, updated, IsSame};
 ghost use Rattle.loop_steps.specs.Ints.{CanPut, PutsInt, HasOperated, HasUpdated, holding};
 ghost use Rattle.loop_steps.specs.Ints.{state_with, HasGoneOn};
 ghost use Rattle.loop_steps.specs.Runs.{IsOver, run_of};
+ghost use Rattle.ck_values.specs.declared.reference.Ref.{Ref as Reference};
+ghost use Rattle.machine_world.specs.Held.{in_shred, AreBalanced, Covers, Recounts};
 ghost use Rattle.machine_world.specs.Worlds.{counted};
 
 use ck_code::{Code, Instr, Step};
 use ck_values::{Op2, Value};
 use fixed_point::Memory;
-use machine_world::{item_at, leave_function, let_int_go, step_in, steps_at};
+use machine_world::{World, item_at, leave_function, let_int_go, step_in, steps_at};
 use shred_state::Shred;
 use value_ops::{int_units, of_ints};
 
@@ -88,6 +90,7 @@ fn added(shred: &mut Shred, i: u32, operator: Op2, b: i64) -> Option<i64>
     ensures sum { IfSome result (λ n.
         HasUpdated (locals_of shred.old) i operator b n (locals_of shred.new)) }
     ensures kept { shred.new ≡ with_locals shred.old shred.new.top.locals }
+    ensures holds { (r : Reference) → in_shred r shred.new ≡ in_shred r shred.old }
     ensures left { IfNone result (shred.new ≡ shred.old) }
 {
     let Op2::AddIntInt = operator else {
@@ -97,7 +100,7 @@ fn added(shred: &mut Shred, i: u32, operator: Op2, b: i64) -> Option<i64>
         return None;
     };
     let n = of_ints(operator, *a, b).ok()?;
-    shred.set_local(i, Value::Int(n));
+    let_int_go(shred.set_local(i, Value::Int(n)));
     Some(n)
 }
 
@@ -139,6 +142,7 @@ pub fn go_on_with_int(
     code: &Code,
     first_steps: &[Step],
     shred: &mut Shred,
+    world: &mut World,
     here: &mut usize,
     from: &mut usize,
     begun: &mut u64,
@@ -147,6 +151,7 @@ pub fn go_on_with_int(
     requires steps { steps_of (slice_get code.now.funs shred.old.top.fun) ≡ first_steps.now }
     requires here { here.old < 2 ^ 64 - 1 }
     requires from { from.old ≤ here.old }
+    requires covered { Covers world.old shred.old }
     requires over { let first = holding shred.old first (here.old + 1) in
         (s : State) × IsOver (run_of code.now first (state_with s shred.old)) }
     ensures gone { (s : State) → let line = here.old + 1 - from.old in
@@ -160,6 +165,8 @@ pub fn go_on_with_int(
     ensures fun { IfOk result (λ moved.
         OnFalse moved (shred.new.top.fun ≡ shred.old.top.fun)) }
     ensures same { OnOk result (IsSame shred.old shred.new) }
+    ensures balances { OnOk result (AreBalanced world.old shred.old shred.new world.new) }
+    ensures only { OnOk result (Recounts world.old world.new) }
 {
     let parts = code.parts();
     let mut steps = first_steps;
@@ -184,7 +191,7 @@ pub fn go_on_with_int(
                 *here += 1;
             }
             Instr::Return => {
-                if !leave_function(shred) {
+                if !leave_function(shred, world) {
                     break 'line;
                 }
                 *begun = counted_to(*begun, *from, *here);
@@ -207,7 +214,7 @@ pub fn go_on_with_int(
                 }
             }
             Instr::SetLocal(i) => {
-                shred.set_local(*i, Value::Int(top));
+                world.let_go(shred.set_local(*i, Value::Int(top)));
                 *here += 1;
             }
             Instr::OpLocal(i, operator) => {

@@ -5,9 +5,10 @@ ghost use Rattle.machine_world.specs.Scenes.{CanRunIn, CarriesIn};
 
 use ck_code::Step;
 use fixed_point::Memory;
-use machine_world::{Stop, Then, World, copied, go_on, let_reference_go, reference};
+use machine_world::{Stop, Then, World, go_on, reference};
 use shred_state::Shred;
 use std::alloc::Global;
+use value_ops::OpEnd;
 
 /// Puts a field in the place of the object on the top; null is a trap.
 #[tactic(auto, using(machine_world::proofs::Operands::operands), unfolding(machine_world::specs::Shown::shown))]
@@ -16,22 +17,22 @@ pub fn put_field(
     alloc: Global,
     at: &Step,
     shred: &mut Shred,
-    world: &World,
+    world: &mut World,
     i: u32,
 ) -> Result<Then, Memory>
     requires is { at.now.instr ≡ Field i }
-    requires can { CanRunIn world.now at.now shred.old }
+    requires can { CanRunIn world.old at.now shred.old }
     ensures carries { IfOk result (λ then.
-        CarriesIn world.now at.now then shred.old shred.new world.now) }
+        CarriesIn world.old at.now then shred.old shred.new world.new) }
 {
     let object = reference(shred.peek());
-    match world.field(object, i) {
+    match world.field(alloc, object, i) {
         Ok(v) => {
-            let v = copied(alloc, v)?;
-            let_reference_go(shred.set_top(v));
+            world.let_go(shred.set_top(v));
             Ok(go_on(shred))
         }
-        Err(trap) => Ok(Then::Stopped(Stop::Trapped(trap, at.place))),
+        Err(OpEnd::Trap(trap)) => Ok(Then::Stopped(Stop::Trapped(trap, at.place))),
+        Err(OpEnd::Memory(memory)) => Err(memory),
     }
 }
 
@@ -51,9 +52,14 @@ pub fn set_field(
         CarriesIn world.old at.now then shred.old shred.new world.new) }
 {
     let object = reference(&shred.pop());
-    let v = copied(alloc, shred.peek())?;
-    match world.set_field(object, i, v) {
-        Ok(_old) => Ok(go_on(shred)),
+    let v = world.copied(alloc, shred.peek())?;
+    let set = world.set_field(object, i, v);
+    world.let_reference_go(object);
+    match set {
+        Ok(old) => {
+            world.let_go(old);
+            Ok(go_on(shred))
+        }
         Err(trap) => Ok(Then::Stopped(Stop::Trapped(trap, at.place))),
     }
 }

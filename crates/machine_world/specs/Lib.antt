@@ -1,6 +1,7 @@
 pub mod Shown
 pub mod Worlds
 pub mod Tries
+pub mod Held
 pub mod Acts
 pub mod Steps
 pub mod Units

@@ -1,10 +1,12 @@
 -- A shred in its slice, what an instruction needs then, and what carrying it out does.
-use Rattle.std.specs.Prelude.{◌-◌, ◌^◌, ◌<◌, ◌≡◌, List}
+use Rattle.std.specs.Prelude.{ℕ, ◌+◌, ◌-◌, ◌^◌, ◌<◌, ◌≤◌, ◌≡◌, List}
+use Rattle.ck_values.specs.declared.reference.Ref.{Ref}
 use Rattle.ck_code.specs.declared.code.CodeParts.{CodeParts}
 use Rattle.ck_code.specs.declared.code.Step.{Step}
 use Rattle.ck_code.specs.Machine.{Effect}
 use Rattle.ck_store.specs.Store.{State, Store}
 use Rattle.shred_state.specs.Frames.{Standing}
+use Rattle.machine_world.specs.Held.{in_shred, in_acts, in_then, outside}
 use Rattle.machine_world.specs.Shown.{shown}
 use Rattle.machine_world.specs.Steps.{state_of, effect_in, IsGood, IsRunnable, Follows, IsSame, Stays}
 use Rattle.machine_world.specs.Worlds.{Parts, StandsFor}
@@ -29,20 +31,37 @@ abbrev pub effect_over : CodeParts → Step → Scene → Store → Effect
 effect_over code step now store =
     effect_in code step.instr step.place (shown now.shred) (state_over store now)
 
+-- how often the shred and its acts hold an object
+abbrev pub held : Ref → Scene → ℕ
+held r now = in_shred r now.shred + in_acts r now.acts
+
+-- what they hold is held from outside the world
+abbrev pub IsCovered : Scene → Type 0
+IsCovered now = (r : Ref) → held r now ≤ outside now.world r
+
 -- the instruction can be carried out: over some store that the world stands for it finds operands
--- that it can take, and there is a place behind it
+-- that it can take, what the shred holds is held, and there is a place behind it
 pub record CanRun (code : CodeParts) (step : Step) (now : Scene) : Type 0 where
   pub store : Store
   pub stands : StandsFor now.world store
   pub good : IsGood (effect_over code step now store)
   pub runs : IsRunnable step.instr
+  pub covered : IsCovered now
   pub room : now.shred.top.place < 2 ^ 64 - 1
 
+-- holds came and went from outside as the shred, its acts and what the slice stops for hold more or
+-- less than before
+abbrev pub Balances : Then → (old new : Scene) → Type 0
+Balances then old new = (r : Ref) →
+    outside new.world r + held r old ≡ outside old.world r + (held r new + in_then r then)
+
 -- the instruction was carried out: over each store that the world stood for, what comes after it
--- and what it leaves are as its effect says; the shred and its slice are the same
+-- and what it leaves are as its effect says, and so do the holds; the shred and its slice are the
+-- same
 pub record Carries (code : CodeParts) (step : Step) (then : Then) (old new : Scene) : Type 0 where
   pub follows : (store : Store) → StandsFor old.world store →
       Follows then (effect_over code step old store) step.place new.shred new.world new.acts
+  pub balances : Balances then old new
   pub same : IsSame old.shred new.shred
   pub stays : Stays then old.shred new.shred
   pub ran : new.world.ran ≡ old.world.ran

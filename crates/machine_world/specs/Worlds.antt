@@ -2,20 +2,19 @@
 use Rattle.std.specs.Prelude.{ℕ, ◌+◌, ◌-◌, ◌^◌, ◌≤◌, min, ℤ, pos, ◌+ℤ◌, ◌*ℤ◌, ◌≤ℤ◌, ◌≡◌, List, map}
 use Rattle.ck_base.specs.declared.limits.TheConstants.{MAX_SAMPLES, MAX_SPORKS}
 use Rattle.ck_values.specs.declared.value.Value.{Value}
-use Rattle.ck_values.specs.Datum.{Datum, all_meant}
+use Rattle.ck_values.specs.Datum.{all_meant}
 use Rattle.rand_pcg.specs.Lcg.{Lcg}
-use Rattle.object_heap.specs.Objects.{Objects}
-use Rattle.object_heap.specs.declared.body.Body.{Body}
+use Rattle.counted_heap.specs.Counted.{Counted}
 use Rattle.ugen_graph.specs.Wiring.{Network, connections_of}
-use Rattle.ck_store.specs.Store.{Store}
-use Rattle.value_ops.specs.Heaps.{shown_body}
+use Rattle.ck_store.specs.Store.{Object, Store}
+use Rattle.value_ops.specs.Heaps.{HasObjects}
 
--- the time in samples, the objects, the statics, the unit generators and their connections, the
+-- the time in samples, the objects with their counts, the statics, the unit generators and their connections, the
 -- generator of random words, the sporks made at this sample, the number of the next shred, and how
 -- many instructions were begun
 pub record Parts : Type 0 where
   pub time : ℤ
-  pub heap : Objects
+  pub heap : Counted
   pub statics : List Value
   pub graph : Network
   pub words : Lcg
@@ -23,28 +22,23 @@ pub record Parts : Type 0 where
   pub next_shred : ℕ
   pub ran : ℕ
 
--- a store of these
-abbrev pub plain_store : (now : ℤ) → List Body → (statics : List Datum) → Network → Lcg
-    → (sporks next_shred : ℕ) → Store
-plain_store now bodies statics graph words sporks next_shred = record {
-  now = now;
-  objects = map shown_body bodies;
-  statics = statics;
-  units = graph.units;
-  connections = connections_of graph.links;
-  words = words;
-  sporks = sporks;
-  next_shred = next_shred;
+-- the store of a world, were its objects these
+unfoldable pub store_with : Parts → List Object → Store
+store_with w objects = record {
+  now = w.time;
+  objects = objects;
+  statics = all_meant w.statics;
+  units = w.graph.units;
+  connections = connections_of w.graph.links;
+  words = w.words;
+  sporks = w.sporks;
+  next_shred = w.next_shred;
 }
 
--- the store of a world
-unfoldable pub store_of : Parts → Store
-store_of w =
-    plain_store w.time w.heap.bodies (all_meant w.statics) w.graph w.words w.sporks w.next_shred
-
--- a world stands for a store
+-- a world stands for a store: its heap has the store's objects, and all else is the world's
 pub record StandsFor (world : Parts) (store : Store) : Type 0 where
-  pub is : store_of world ≡ store
+  pub heap : HasObjects world.heap store
+  pub is : store_with world store.objects ≡ store
 
 -- no run is so long that its shreds could have numbers past 64 bits: at most half of them are taken
 -- when it begins

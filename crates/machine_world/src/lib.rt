@@ -9,8 +9,11 @@
 #![tactic(auto)]
 
 mod acts;
+mod arrays;
 mod course;
 mod fetch;
+mod holds;
+mod objects;
 mod readers;
 mod shreds;
 mod units;
@@ -21,7 +24,7 @@ mod world;
 pub use acts::{Act, Acts};
 pub use course::{Course, Stop, Then, go_on, go_on_from, parted, put, put_from};
 pub use fetch::{fun_at, item_at, step_in, steps_at, text_at};
-pub use readers::{copied, dur, float, int, let_float_go, let_int_go, let_reference_go, reference};
-pub use shreds::{leave_function, new_shred};
+pub use readers::{dur, float, int, let_dur_go, let_float_go, let_int_go, reference};
+pub use shreds::{end_shred, leave_function, new_shred};
 pub use waits::{wait_dur, wait_time};
 pub use world::World;

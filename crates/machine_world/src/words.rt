@@ -5,6 +5,7 @@ ghost use Rattle.std.specs.Int.{w64, int_min};
 ghost use Rattle.rand_pcg.specs.Pcg.{pcg32};
 ghost use Rattle.ck_store.specs.Random.{gap, int_drawn, float_drawn, seed_of};
 ghost use Rattle.ugen_kinds.specs.Words.{words_from};
+ghost use Rattle.machine_world.specs.Held.{SameHolds};
 ghost use Rattle.machine_world.specs.Tries.{Becomes, Reads};
 
 use crate::world::World;
@@ -14,32 +15,33 @@ use rand_pcg::Lcg64Xsh32;
 
 impl World {
     /// An int between two, both among them, by the next two words of the generator.
-    #[tactic(auto, unfolding(crate::specs::Worlds::store_of))]
     pub fn draw_int(&mut self, a: i64, b: i64) -> i64
         ensures number { Reads self.old (λ store. (int_drawn a b store.words).number) result }
         ensures store { Becomes self.old
             (λ store. record store { words = (int_drawn a b store.words).words }) self.new }
+        ensures holds { SameHolds self.old self.new }
         ensures ran { self.new.ran ≡ self.old.ran }
     {
         draw_int(&mut self.words, a, b)
     }
 
     /// A float between two, short of the greater, by the next word of the generator.
-    #[tactic(auto, unfolding(crate::specs::Worlds::store_of))]
     pub fn draw_fix(&mut self, a: Fix, b: Fix) -> Fix
         ensures number { Reads self.old (λ store. (float_drawn a b store.words).number) result }
         ensures store { Becomes self.old
             (λ store. record store { words = (float_drawn a b store.words).words }) self.new }
+        ensures holds { SameHolds self.old self.new }
         ensures ran { self.new.ran ≡ self.old.ran }
     {
         draw_fix(&mut self.words, a, b)
     }
 
     /// Starts the generator of random words anew.
-    #[tactic(auto, unfolding(crate::specs::Worlds::store_of, ugen_kinds::specs::Words::words_from))]
+    #[tactic(auto, unfolding(ugen_kinds::specs::Words::words_from))]
     pub fn seed(&mut self, n: i64)
         ensures store { Becomes self.old
             (λ store. record store { words = words_from (seed_of n) }) self.new }
+        ensures holds { SameHolds self.old self.new }
         ensures ran { self.new.ran ≡ self.old.ran }
     {
         self.words = Lcg64Xsh32::new(n.cast_unsigned(), 54);
