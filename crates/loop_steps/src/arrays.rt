@@ -26,7 +26,7 @@ pub fn put_item(
 {
     let index = shred.pop();
     let array = reference(shred.peek());
-    match world.item(alloc, array, &index) {
+    match world.item_copy(alloc, array, &index) {
         Ok(v) => {
             world.let_go(shred.set_top(v));
             Ok(go_on(shred))

@@ -26,7 +26,7 @@ pub fn put_field(
         CarriesIn world.old at.now then shred.old shred.new world.new) }
 {
     let object = reference(shred.peek());
-    match world.field(alloc, object, i) {
+    match world.field_copy(alloc, object, i) {
         Ok(v) => {
             world.let_go(shred.set_top(v));
             Ok(go_on(shred))

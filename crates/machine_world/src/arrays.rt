@@ -6,6 +6,7 @@ ghost use Rattle.ck_values.specs.Datum.{meant, all_meant, AnInt, ARef};
 ghost use Rattle.ck_store.specs.Store.{Gives, Fails};
 ghost use Rattle.ck_store.specs.Arrays.{item_of, with_item, appended, item_count, cleared};
 ghost use Rattle.ck_store.specs.Arrays.{has_item, filled, row_made, sizes_of, grid_made, array_made};
+ghost use Rattle.counted_heap.specs.Counted.{count};
 ghost use Rattle.counted_heap.specs.Places.{hit, hits, places};
 ghost use Rattle.value_ops.specs.Ends.{IsGiven, OnTrap, OnWant};
 ghost use Rattle.machine_world.specs.Held.{outside, IsHeld, AreHeld, Enters, Leaves, Swaps};
@@ -21,9 +22,26 @@ use std::alloc::Global;
 use value_ops::{OpEnd, append, array, clear, fill, grid, has_item, item, row, set_item, size};
 
 impl World {
-    /// A copy of an item of an array that is held, and one more hold of what it refers to; null is a
-    /// trap, and so is an index that isn't there.
-    pub fn item(&mut self, alloc: Global, at: Ref, index: &Value) -> Result<Value, OpEnd>
+    /// An item of an array that is held; null is a trap, and so is an index that isn't there.
+    pub fn item(&self, at: Ref, index: &Value) -> Result<&Value, Trap>
+        requires array { CanDo self.now
+            (λ store. item_of store.objects (ARef at.serial) (meant index.now)) }
+        requires held { IsHeld self.now (To at) }
+        ensures found { IfOk result (λ v. Answers self.now
+            (λ store. item_of store.objects (ARef at.serial) (meant index.now)) (meant v.now)) }
+        ensures counted { IfOk result (λ v. (r : Reference) → hits r v.now ≤ count self.now.heap r) }
+        ensures trap { IfErr result (Refuses self.now
+            (λ store. item_of store.objects (ARef at.serial) (meant index.now))) }
+    {
+        if at.serial == 0 {
+            return Err(Trap::NullPointer);
+        }
+        self.heap.law();
+        item(&self.heap, at, int(index))
+    }
+
+    /// A copy of an item, and one more hold of what it refers to; the traps are the same.
+    pub fn item_copy(&mut self, alloc: Global, at: Ref, index: &Value) -> Result<Value, OpEnd>
         requires array { CanDo self.old
             (λ store. item_of store.objects (ARef at.serial) (meant index.now)) }
         requires held { IsHeld self.old (To at) }
@@ -35,11 +53,7 @@ impl World {
             (λ store. item_of store.objects (ARef at.serial) (meant index.now)))) }
         ensures same { OnErr result (self.new ≡ self.old) }
     {
-        if at.serial == 0 {
-            return Err(OpEnd::Trap(Trap::NullPointer));
-        }
-        self.heap.law();
-        let v = match item(&self.heap, at, int(index)) {
+        let v = match self.item(at, index) {
             Ok(v) => v,
             Err(trap) => return Err(OpEnd::Trap(trap)),
         };

@@ -8,8 +8,8 @@ ghost use Rattle.ck_values.specs.Datum.{meant, first_value, ARef};
 ghost use Rattle.ck_store.specs.Objects.{object_made, referred, field_of, with_field, method_of};
 ghost use Rattle.object_heap.specs.declared.body.Body.TheVariants.{Instance};
 ghost use Rattle.object_heap.specs.Objects.{values_of};
-ghost use Rattle.counted_heap.specs.Places.{places};
-ghost use Rattle.counted_heap.specs.Counted.{object, Makes};
+ghost use Rattle.counted_heap.specs.Places.{hits, places};
+ghost use Rattle.counted_heap.specs.Counted.{object, count, Makes};
 ghost use Rattle.counted_heap.specs.Stands.{StandsOn};
 ghost use Rattle.value_ops.specs.Ends.{OnTrap, OnWant};
 ghost use Rattle.machine_world.specs.Held.{IsHeld, Enters, Leaves, Swaps, Recounts};
@@ -63,9 +63,26 @@ impl World {
         }
     }
 
-    /// A copy of a field of an object that is held, and one more hold of what it refers to; null is
-    /// a trap.
-    pub fn field(&mut self, alloc: Global, at: Ref, i: u32) -> Result<Value, OpEnd>
+    /// A field of an object that is held; null is a trap.
+    pub fn field(&self, at: Ref, i: u32) -> Result<&Value, Trap>
+        requires object { CanDo self.now (λ store. field_of store (ARef at.serial) i) }
+        requires held { IsHeld self.now (To at) }
+        ensures found { IfOk result (λ v.
+            Answers self.now (λ store. field_of store (ARef at.serial) i) (meant v.now)) }
+        ensures counted { IfOk result (λ v. (r : Reference) → hits r v.now ≤ count self.now.heap r) }
+        ensures null { IfErr result
+            (Refuses self.now (λ store. field_of store (ARef at.serial) i)) }
+    {
+        if at.serial == 0 {
+            return Err(Trap::NullPointer);
+        }
+        let (_, fields) = self.instance(at);
+        self.heap.law();
+        Ok(&fields[i as usize])
+    }
+
+    /// A copy of a field, and one more hold of what it refers to; null is a trap.
+    pub fn field_copy(&mut self, alloc: Global, at: Ref, i: u32) -> Result<Value, OpEnd>
         requires object { CanDo self.old (λ store. field_of store (ARef at.serial) i) }
         requires held { IsHeld self.old (To at) }
         ensures found { IfOk result (λ v.
@@ -76,14 +93,12 @@ impl World {
             (Refuses self.old (λ store. field_of store (ARef at.serial) i))) }
         ensures same { OnErr result (self.new ≡ self.old) }
     {
-        if at.serial == 0 {
-            return Err(OpEnd::Trap(Trap::NullPointer));
-        }
-        let (_, fields) = self.instance(at);
-        let v = &fields[i as usize];
+        let v = match self.field(at, i) {
+            Ok(v) => v,
+            Err(trap) => return Err(OpEnd::Trap(trap)),
+        };
         if let Value::Ref(to) = v {
             let to = *to;
-            self.heap.law();
             self.hold(to)?;
             return Ok(Value::Ref(to));
         }

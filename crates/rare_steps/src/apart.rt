@@ -65,8 +65,8 @@ fn carry_out(
         Instr::NoShred => put(shred, Value::Shred(0)),
         Instr::Null => put(shred, Value::Ref(Ref { serial: 0, slot: 0 })),
         Instr::Me => put_me(shred),
-        Instr::Dac => put_dac(shred),
-        Instr::Hole => put_hole(shred),
+        Instr::Dac => put_dac(shred, world),
+        Instr::Hole => put_hole(shred, world),
         Instr::OpField(i, operator) => update_field(alloc, at, shred, world, *i, *operator),
         Instr::OpItem(operator) => update_item(alloc, at, shred, world, *operator),
         Instr::Swap => exchange(at, shred),
@@ -113,7 +113,7 @@ fn carry_out_deed(
         Instr::Lit(elem, n) => make_array(alloc, at, shred, world, *elem, false, *n),
         Instr::LitGrid(elem, n) => make_array(alloc, at, shred, world, *elem, true, *n),
         Instr::Native(call) => call_native(alloc, at, shred, world, acts, *call),
-        Instr::Print(kinds) => print(alloc, code, at, shred, acts, kinds.items()),
+        Instr::Print(kinds) => print(alloc, code, at, shred, world, acts, kinds.items()),
         // No other instruction is one of these.
         _ => unreachable!(),
     }

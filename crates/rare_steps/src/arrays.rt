@@ -8,7 +8,7 @@ ghost use Rattle.machine_world.specs.Scenes.{CanRunIn, CarriesIn};
 use ck_code::Step;
 use ck_values::{Op2, Value};
 use fixed_point::Memory;
-use machine_world::{Stop, Then, World, copied, go_on, put, reference};
+use machine_world::{Stop, Then, World, go_on, let_int_go, put, reference};
 use shred_state::Shred;
 use std::alloc::Global;
 use value_ops::{OpEnd, binary};
@@ -28,20 +28,30 @@ pub(crate) fn update_item(
         CarriesIn world.old at.now then shred.old shred.new world.new) }
 {
     let index = shred.pop();
-    let object = shred.pop();
-    let array = reference(&object);
+    let array = reference(&shred.pop());
     let operand = shred.pop();
-    let old = match world.item(array, &index) {
-        Ok(old) => old,
-        Err(trap) => return Ok(Then::Stopped(Stop::Trapped(trap, at.place))),
+    let made = match world.item(array, &index) {
+        Ok(old) => binary(alloc, operator, old, &operand),
+        Err(trap) => Err(OpEnd::Trap(trap)),
     };
-    match binary(alloc, operator, old, &operand) {
-        Ok(v) => match world.set_item(array, &index, copied(alloc, &v)?) {
-            Ok(_old) => put(shred, v),
-            Err(trap) => Ok(Then::Stopped(Stop::Trapped(trap, at.place))),
-        },
-        Err(OpEnd::Trap(trap)) => Ok(Then::Stopped(Stop::Trapped(trap, at.place))),
-        Err(OpEnd::Memory(memory)) => Err(memory),
+    world.let_go(operand);
+    let v = match made {
+        Ok(v) => v,
+        Err(OpEnd::Trap(trap)) => {
+            world.let_reference_go(array);
+            return Ok(Then::Stopped(Stop::Trapped(trap, at.place)));
+        }
+        Err(OpEnd::Memory(memory)) => return Err(memory),
+    };
+    let copy = world.copied(alloc, &v)?;
+    let set = world.set_item(array, &index, copy);
+    world.let_reference_go(array);
+    match set {
+        Ok(old) => {
+            world.let_go(old);
+            put(shred, v)
+        }
+        Err(trap) => Ok(Then::Stopped(Stop::Trapped(trap, at.place))),
     }
 }
 
@@ -62,7 +72,7 @@ pub(crate) fn pass_items(
     match world.has_item(array, shred.peek()) {
         Ok(true) => Ok(go_on(shred)),
         Ok(false) => {
-            shred.pop();
+            let_int_go(shred.pop());
             shred.jump(to);
             Ok(Then::GoesOn)
         }
@@ -89,14 +99,16 @@ pub(crate) fn fill(at: &Step, shred: &mut Shred, world: &mut World) -> Result<Th
 
 /// Puts the number of items in the place of an array; null is a trap.
 #[tactic(auto, unfolding(ck_store::specs::Natives::native, machine_world::specs::Shown::shown))]
-pub(crate) fn put_size(at: &Step, shred: &mut Shred, world: &World) -> Result<Then, Memory>
+pub(crate) fn put_size(at: &Step, shred: &mut Shred, world: &mut World) -> Result<Then, Memory>
     requires is { at.now.instr ≡ BuiltIn Size }
-    requires can { CanRunIn world.now at.now shred.old }
+    requires can { CanRunIn world.old at.now shred.old }
     ensures carries { IfOk result (λ then.
-        CarriesIn world.now at.now then shred.old shred.new world.now) }
+        CarriesIn world.old at.now then shred.old shred.new world.new) }
 {
     let array = reference(&shred.pop());
-    match world.size(array) {
+    let size = world.size(array);
+    world.let_reference_go(array);
+    match size {
         Ok(size) => put(shred, Value::Int(size)),
         Err(trap) => Ok(Then::Stopped(Stop::Trapped(trap, at.place))),
     }
@@ -111,7 +123,9 @@ pub(crate) fn clear(at: &Step, shred: &mut Shred, world: &mut World) -> Result<T
         CarriesIn world.old at.now then shred.old shred.new world.new) }
 {
     let array = reference(&shred.pop());
-    match world.clear(array) {
+    let cleared = world.clear(array);
+    world.let_reference_go(array);
+    match cleared {
         Ok(()) => put(shred, Value::Int(0)),
         Err(trap) => Ok(Then::Stopped(Stop::Trapped(trap, at.place))),
     }

@@ -6,7 +6,7 @@ ghost use Rattle.machine_world.specs.Scenes.{CanRunIn, CarriesIn};
 use ck_code::Step;
 use ck_values::Op2;
 use fixed_point::Memory;
-use machine_world::{Stop, Then, World, copied, put, reference};
+use machine_world::{Stop, Then, World, put, reference};
 use shred_state::Shred;
 use std::alloc::Global;
 use value_ops::{OpEnd, binary};
@@ -26,19 +26,29 @@ pub(crate) fn update_field(
     ensures carries { IfOk result (λ then.
         CarriesIn world.old at.now then shred.old shred.new world.new) }
 {
-    let object = shred.pop();
-    let receiver = reference(&object);
+    let object = reference(&shred.pop());
     let operand = shred.pop();
-    let old = match world.field(receiver, i) {
-        Ok(old) => old,
-        Err(trap) => return Ok(Then::Stopped(Stop::Trapped(trap, at.place))),
+    let made = match world.field(object, i) {
+        Ok(old) => binary(alloc, operator, old, &operand),
+        Err(trap) => Err(OpEnd::Trap(trap)),
     };
-    match binary(alloc, operator, old, &operand) {
-        Ok(v) => match world.set_field(receiver, i, copied(alloc, &v)?) {
-            Ok(_old) => put(shred, v),
-            Err(trap) => Ok(Then::Stopped(Stop::Trapped(trap, at.place))),
-        },
-        Err(OpEnd::Trap(trap)) => Ok(Then::Stopped(Stop::Trapped(trap, at.place))),
-        Err(OpEnd::Memory(memory)) => Err(memory),
+    world.let_go(operand);
+    let v = match made {
+        Ok(v) => v,
+        Err(OpEnd::Trap(trap)) => {
+            world.let_reference_go(object);
+            return Ok(Then::Stopped(Stop::Trapped(trap, at.place)));
+        }
+        Err(OpEnd::Memory(memory)) => return Err(memory),
+    };
+    let copy = world.copied(alloc, &v)?;
+    let set = world.set_field(object, i, copy);
+    world.let_reference_go(object);
+    match set {
+        Ok(old) => {
+            world.let_go(old);
+            put(shred, v)
+        }
+        Err(trap) => Ok(Then::Stopped(Stop::Trapped(trap, at.place))),
     }
 }

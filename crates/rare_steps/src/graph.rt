@@ -4,6 +4,7 @@ ghost use Rattle.ck_values.specs.declared.value.Value.TheVariants.{Ref as To};
 ghost use Rattle.ck_code.specs.declared.instr.Instr.TheVariants.{Ugen, Connect, Disconnect};
 ghost use Rattle.ck_code.specs.declared.instr.Instr.TheVariants.{Param as ReadParam, SetParam};
 ghost use Rattle.machine_world.specs.declared.course.Then.TheVariants.{GoesOn};
+ghost use Rattle.machine_world.specs.Held.{dac, blackhole, AreBalanced, Recounts};
 ghost use Rattle.machine_world.specs.Scenes.{CanRunIn, CarriesIn};
 ghost use Rattle.machine_world.specs.Steps.{next_standing};
 
@@ -17,23 +18,27 @@ use ugen_names::{Param, UgenKind};
 use value_ops::OpEnd;
 
 /// Puts `dac`, the first object of each run, on the top.
-pub(crate) fn put_dac(shred: &mut Shred) -> Result<Then, Memory>
+pub(crate) fn put_dac(shred: &mut Shred, world: &mut World) -> Result<Then, Memory>
     requires { shred.old.top.place < 2 ^ 64 - 1 }
     ensures then { IfOk result (λ then. then ≡ GoesOn) }
-    ensures put { let unit = To (record { serial = 1; slot = 0 }) in let top = shred.old.top in
-        OnOk result (shred.new ≡ next_standing shred.old top.locals (unit ∷ top.operands)) }
+    ensures put { let top = shred.old.top in
+        OnOk result (shred.new ≡ next_standing shred.old top.locals (To dac ∷ top.operands)) }
+    ensures balances { OnOk result (AreBalanced world.old shred.old shred.new world.new) }
+    ensures only { OnOk result (Recounts world.old world.new) }
 {
-    put(shred, Value::Ref(Ref { serial: 1, slot: 0 }))
+    put(shred, world.dac()?)
 }
 
 /// Puts `blackhole`, the second object of each run, on the top.
-pub(crate) fn put_hole(shred: &mut Shred) -> Result<Then, Memory>
+pub(crate) fn put_hole(shred: &mut Shred, world: &mut World) -> Result<Then, Memory>
     requires { shred.old.top.place < 2 ^ 64 - 1 }
     ensures then { IfOk result (λ then. then ≡ GoesOn) }
-    ensures put { let unit = To (record { serial = 2; slot = 1 }) in let top = shred.old.top in
-        OnOk result (shred.new ≡ next_standing shred.old top.locals (unit ∷ top.operands)) }
+    ensures put { let top = shred.old.top in OnOk result
+        (shred.new ≡ next_standing shred.old top.locals (To blackhole ∷ top.operands)) }
+    ensures balances { OnOk result (AreBalanced world.old shred.old shred.new world.new) }
+    ensures only { OnOk result (Recounts world.old world.new) }
 {
-    put(shred, Value::Ref(Ref { serial: 2, slot: 1 }))
+    put(shred, world.blackhole()?)
 }
 
 /// Makes a unit generator of the shred that runs and puts it on the top; it is a trap where as many
@@ -65,11 +70,16 @@ pub(crate) fn connect(at: &Step, shred: &mut Shred, world: &mut World) -> Result
     ensures carries { IfOk result (λ then.
         CarriesIn world.old at.now then shred.old shred.new world.new) }
 {
-    let to = shred.pop();
+    let to = reference(&shred.pop());
     let from = reference(&shred.pop());
-    match world.connect(from, &to) {
-        Ok(()) => put(shred, to),
-        Err(OpEnd::Trap(trap)) => Ok(Then::Stopped(Stop::Trapped(trap, at.place))),
+    let connected = world.connect(from, to);
+    world.let_reference_go(from);
+    match connected {
+        Ok(()) => put(shred, Value::Ref(to)),
+        Err(OpEnd::Trap(trap)) => {
+            world.let_reference_go(to);
+            Ok(Then::Stopped(Stop::Trapped(trap, at.place)))
+        }
         Err(OpEnd::Memory(memory)) => Err(memory),
     }
 }
@@ -82,11 +92,16 @@ pub(crate) fn disconnect(at: &Step, shred: &mut Shred, world: &mut World) -> Res
     ensures carries { IfOk result (λ then.
         CarriesIn world.old at.now then shred.old shred.new world.new) }
 {
-    let to = shred.pop();
+    let to = reference(&shred.pop());
     let from = reference(&shred.pop());
-    match world.disconnect(from, &to) {
-        Ok(()) => put(shred, to),
-        Err(trap) => Ok(Then::Stopped(Stop::Trapped(trap, at.place))),
+    let disconnected = world.disconnect(from, to);
+    world.let_reference_go(from);
+    match disconnected {
+        Ok(()) => put(shred, Value::Ref(to)),
+        Err(trap) => {
+            world.let_reference_go(to);
+            Ok(Then::Stopped(Stop::Trapped(trap, at.place)))
+        }
     }
 }
 
@@ -94,16 +109,18 @@ pub(crate) fn disconnect(at: &Step, shred: &mut Shred, world: &mut World) -> Res
 pub(crate) fn put_parameter(
     at: &Step,
     shred: &mut Shred,
-    world: &World,
+    world: &mut World,
     p: Param,
 ) -> Result<Then, Memory>
     requires is { at.now.instr ≡ ReadParam p }
-    requires can { CanRunIn world.now at.now shred.old }
+    requires can { CanRunIn world.old at.now shred.old }
     ensures carries { IfOk result (λ then.
-        CarriesIn world.now at.now then shred.old shred.new world.now) }
+        CarriesIn world.old at.now then shred.old shred.new world.new) }
 {
     let unit = reference(&shred.pop());
-    match world.parameter(unit, p) {
+    let parameter = world.parameter(unit, p);
+    world.let_reference_go(unit);
+    match parameter {
         Ok(v) => put(shred, v),
         Err(trap) => Ok(Then::Stopped(Stop::Trapped(trap, at.place))),
     }
@@ -125,7 +142,9 @@ pub(crate) fn set_parameter(
 {
     let v = shred.pop();
     let unit = reference(&shred.pop());
-    match world.set_parameter(alloc, unit, p, v) {
+    let set = world.set_parameter(alloc, unit, p, v);
+    world.let_reference_go(unit);
+    match set {
         Ok(back) => put(shred, back),
         Err(OpEnd::Trap(trap)) => Ok(Then::Stopped(Stop::Trapped(trap, at.place))),
         Err(OpEnd::Memory(memory)) => Err(memory),

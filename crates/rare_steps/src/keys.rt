@@ -26,7 +26,9 @@ pub(crate) fn key(
         CarriesIn world.old at.now then shred.old shred.new world.new) }
 {
     let unit = reference(&shred.pop());
-    match world.key(unit, is_on) {
+    let keyed = world.key(unit, is_on);
+    world.let_reference_go(unit);
+    match keyed {
         Ok(()) => put(shred, Value::Int(0)),
         Err(trap) => Ok(Then::Stopped(Stop::Trapped(trap, at.place))),
     }
@@ -48,7 +50,9 @@ pub(crate) fn key_where(
 {
     let n = int(&shred.pop());
     let unit = reference(&shred.pop());
-    match world.key(unit, (n != 0) == is_on) {
+    let keyed = world.key(unit, (n != 0) == is_on);
+    world.let_reference_go(unit);
+    match keyed {
         Ok(()) => put(shred, Value::Int(0)),
         Err(trap) => Ok(Then::Stopped(Stop::Trapped(trap, at.place))),
     }
@@ -68,7 +72,9 @@ pub(crate) fn set_stages(at: &Step, shred: &mut Shred, world: &mut World) -> Res
     let decay = dur(&shred.pop());
     let attack = dur(&shred.pop());
     let unit = reference(&shred.pop());
-    match world.set_stages(unit, attack, decay, sustain, release) {
+    let staged = world.set_stages(unit, attack, decay, sustain, release);
+    world.let_reference_go(unit);
+    match staged {
         Ok(()) => put(shred, Value::Int(0)),
         Err(trap) => Ok(Then::Stopped(Stop::Trapped(trap, at.place))),
     }

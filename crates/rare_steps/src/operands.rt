@@ -5,6 +5,8 @@ ghost use Rattle.ck_code.specs.Machine.{text_at};
 ghost use Rattle.ck_store.specs.Steps.{float_units};
 ghost use Rattle.ck_store.specs.Store.{IsFitting};
 ghost use Rattle.machine_world.specs.declared.course.Then.TheVariants.{GoesOn};
+ghost use Rattle.ck_values.specs.declared.reference.Ref.{Ref as Reference};
+ghost use Rattle.machine_world.specs.Held.{in_shred};
 ghost use Rattle.machine_world.specs.Scenes.{CanRunAlone, CarriesAlone};
 ghost use Rattle.machine_world.specs.Shown.{operands_of};
 ghost use Rattle.machine_world.specs.Steps.{of_top, IsPut};
@@ -29,6 +31,7 @@ pub(crate) fn put_text(
     ensures then { IfOk result (λ then. then ≡ GoesOn) }
     ensures put { OnOk result
         (IsPut (text_at code.now.texts k) shred.old (operands_of shred.old) shred.new) }
+    ensures holds { OnOk result ((r : Reference) → in_shred r shred.new ≡ in_shred r shred.old) }
 {
     let text = text_at(code, k).try_clone(alloc)?;
     put(shred, Value::Text(text))
@@ -60,6 +63,7 @@ pub(crate) fn put_fix_units(
     ensures put { let units = float_units numerator denominator in
         OnOk result (IsPut (of_top (operands_of shred.old) units) shred.old
         (drop 1 (operands_of shred.old)) shred.new) }
+    ensures holds { OnOk result ((r : Reference) → in_shred r shred.new ≡ in_shred r shred.old) }
 {
     let count = shred.pop();
     put(shred, fix_units(numerator, denominator, &count))

@@ -5,7 +5,8 @@ ghost use Rattle.ck_values.specs.Datum.{meant};
 ghost use Rattle.ck_code.specs.declared.instr.Instr.TheVariants.{Print};
 ghost use Rattle.ck_store.specs.Prints.{print_line, spaced, kind_name};
 ghost use Rattle.ck_store.specs.Strings.{printed};
-ghost use Rattle.machine_world.specs.Scenes.{scene, CanRunAlone, Carries};
+ghost use Rattle.machine_world.specs.Held.{AreBalanced, Covers, Recounts};
+ghost use Rattle.machine_world.specs.Scenes.{scene, CanRunIn, Carries};
 ghost use Rattle.machine_world.specs.Shown.{operands_of};
 ghost use Rattle.machine_world.specs.Worlds.{Parts};
 ghost use Rattle.shred_state.specs.Frames.{with_operands};
@@ -15,7 +16,7 @@ use ck_code::{CodeParts, Step};
 use ck_values::{Kind, Value};
 use fixed_point::Memory;
 use kind_names::add_kind;
-use machine_world::{Act, Acts, Then, go_on};
+use machine_world::{Act, Acts, Then, World, go_on};
 use shred_state::Shred;
 use std::alloc::Global;
 use value_ops::show;
@@ -26,16 +27,17 @@ pub(crate) fn print(
     code: &CodeParts,
     at: &Step,
     shred: &mut Shred,
+    world: &mut World,
     acts: &mut Acts,
     kinds: &[Kind],
 ) -> Result<Then, Memory>
     requires is { at.now.instr ≡ Print kinds.now }
-    requires can { CanRunAlone at.now shred.old }
-    ensures carries { (world : Parts) → IfOk result (λ then. Carries code.now at.now then
-        (scene shred.old world acts.old) (scene shred.new world acts.new)) }
+    requires can { CanRunIn world.old at.now shred.old }
+    ensures carries { IfOk result (λ then. Carries code.now at.now then
+        (scene shred.old world.old acts.old) (scene shred.new world.new acts.new)) }
 {
     let line = line_of(alloc, code, shred, kinds)?;
-    drop_operands(shred, kinds.len());
+    drop_operands(shred, world, kinds.len());
     acts.push(Act::Print(line))?;
     Ok(go_on(shred))
 }
@@ -91,13 +93,16 @@ fn add_spaced(shred: &Shred, count: usize, line: &mut Vec<u8>) -> Result<(), Mem
 }
 
 // Drops the topmost operands.
-fn drop_operands(shred: &mut Shred, count: usize)
-    requires { count ≤ length shred.old.top.operands }
-    ensures { shred.new ≡ with_operands shred.old (drop count shred.old.top.operands) }
+fn drop_operands(shred: &mut Shred, world: &mut World, count: usize)
+    requires some { count ≤ length shred.old.top.operands }
+    requires covered { Covers world.old shred.old }
+    ensures dropped { shred.new ≡ with_operands shred.old (drop count shred.old.top.operands) }
+    ensures balances { AreBalanced world.old shred.old shred.new world.new }
+    ensures only { Recounts world.old world.new }
 {
     let mut left = count;
     'operands: while left > 0 {
-        shred.pop();
+        world.let_go(shred.pop());
         left -= 1;
     }
 }
