@@ -1,18 +1,14 @@
 -- Variables by their numbers.
-use Rattle.std.proofs.Common.{◌≡◌, ℕ, ℤ, zero, suc, ◌<◌, arith, length, List, [], ◌∷◌}
+use Rattle.std.proofs.Common.{◌≡◌, ℕ, zero, suc, ◌<◌, arith, length, List, [], ◌∷◌}
 use Rattle.std.proofs.Common.{Some, slice_get, slice_set, ap, sym, ◌∙◌}
 use Rattle.std.specs.Option.{option_map}
 use Rattle.std.proofs.lemmas.List.{length-map, map-set}
 use Rattle.std.proofs.lemmas.Option.{slice_get-map}
 use Rattle.ck_values.specs.declared.value.Value.{Value}
 use Rattle.ck_values.specs.Datum.{Datum, meant, all_meant}
-use Rattle.object_heap.specs.declared.body.Body.{Body}
 use Rattle.ck_store.specs.Store.{Store, Try, Gives}
 use Rattle.ck_store.specs.Steps.{found, and_then, local_of, with_local, static_of, with_static}
 use Rattle.ck_store.specs.Store.{IsFitting}
-use Rattle.ugen_graph.specs.Wiring.{Network}
-use Rattle.rand_pcg.specs.Lcg.{Lcg}
-use Rattle.machine_world.specs.Worlds.{plain_store}
 
 pub length-meant : (values : List Value) → length (all_meant values) ≡ length values
 length-meant values = length-map values meant
@@ -65,37 +61,34 @@ set_local_meant values i old v is =
 
 pub ruleset locals = (length-meant, local_within, local_meant, set_local_within, set_local_meant)
 
--- a static that is replaced
-pub static_meant : (now : ℤ) (bodies : List Body) (values : List Value) (graph : Network) (words : Lcg)
-    (sporks next i : ℕ) (v : Value)
-    → slice_get values i ≡ Some v
-    → static_of (plain_store now bodies (all_meant values) graph words sporks next) i ≡ Gives (meant v)
-unfolding static_of
-static_meant now bodies values graph words sporks next i v is = ap found (get_meant values i v is)
-
+-- a static that is found, and one that is replaced
 pub static_within : (store : Store) (i : ℕ) → IsFitting (static_of store i)
     → i < length store.statics
 unfolding static_of
 static_within store i fits = found_within store.statics i fits
+
+pub static_meant : (store : Store) (values : List Value) (i : ℕ) (v : Value)
+    → store.statics ≡ all_meant values → slice_get values i ≡ Some v
+    → static_of store i ≡ Gives (meant v)
+unfolding static_of
+static_meant store values i v same is =
+    ap (λ vs. found (slice_get vs i)) same ∙ ap found (get_meant values i v is)
 
 pub set_static_within : (store : Store) (i : ℕ) (d : Datum) → IsFitting (with_static store i d)
     → i < length store.statics
 unfolding static_of with_static
 set_static_within store i d fits = replaced_within store.statics i _ fits
 
-pub set_static_meant : (now : ℤ) (bodies : List Body) (values : List Value) (graph : Network) (words : Lcg)
-    (sporks next i : ℕ) (old v : Value)
-    → slice_get values i ≡ Some old
-    → with_static (plain_store now bodies (all_meant values) graph words sporks next) i (meant v)
-    ≡ Gives (plain_store now bodies (all_meant (slice_set values i v)) graph words sporks next)
+pub set_static_meant : (store : Store) (values : List Value) (i : ℕ) (old v : Value)
+    → store.statics ≡ all_meant values → slice_get values i ≡ Some old
+    → with_static store i (meant v)
+    ≡ Gives (record store { statics = all_meant (slice_set values i v) })
 unfolding static_of with_static
-set_static_meant now bodies values graph words sporks next i old v is =
-    let set = Gives (plain_store now bodies (slice_set (all_meant values) i (meant v)) graph words sporks next) in
-    ap (λ o. and_then (found o) (λ d. set)) (get_meant values i old is)
-    ∙ ap (λ vs. Gives (plain_store now bodies vs graph words sporks next)) (sym (set_meant values i v))
-
-pub ruleset statics_read = (length-meant, static_within, static_meant)
-
-pub ruleset statics = (length-meant, static_meant, set_static_within, set_static_meant)
+set_static_meant store values i old v same is =
+    let set : List Datum → Try Store =
+    λ vs. Gives (record store { statics = slice_set vs i (meant v) }) in
+    ap (λ vs. and_then (found (slice_get vs i)) (λ d. set vs)) same
+    ∙ ap (λ o. and_then (found o) (λ d. set (all_meant values))) (get_meant values i old is)
+    ∙ ap (λ vs. Gives (record store { statics = vs })) (sym (set_meant values i v))
 
 pub ruleset numbered = (length-meant, get_meant, set_meant, found_within, replaced_within)

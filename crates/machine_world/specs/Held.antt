@@ -69,6 +69,10 @@ blackhole = record { serial = 2; slot = 1 }
 abbrev pub own : Ref → Parts → ℕ
 own r world = places r world.statics + (in_links r world.graph.links + (hit r dac + hit r blackhole))
 
+-- which are among the holds of its heap
+abbrev pub OwnsHeld : Parts → Type 0
+OwnsHeld world = (r : Ref) → own r world ≤ heap.outside world.heap r
+
 -- from outside the world: all holds of its heap, less the world's own
 unfoldable pub outside : Parts → Ref → ℕ
 outside world r = heap.outside world.heap r - own r world

@@ -6,9 +6,9 @@ ghost use Rattle.ck_values.specs.Datum.{meant, all_meant, AnInt, ARef};
 ghost use Rattle.ck_store.specs.Store.{Gives, Fails};
 ghost use Rattle.ck_store.specs.Arrays.{item_of, with_item, appended, item_count, cleared};
 ghost use Rattle.ck_store.specs.Arrays.{has_item, filled, row_made, sizes_of, grid_made, array_made};
-ghost use Rattle.counted_heap.specs.Counted.{count};
-ghost use Rattle.counted_heap.specs.Places.{hit, hits, places};
+ghost use Rattle.counted_heap.specs.Places.{hit, places};
 ghost use Rattle.value_ops.specs.Ends.{IsGiven, OnTrap, OnWant};
+ghost use Rattle.value_ops.specs.Heaps.{CanBeHeld};
 ghost use Rattle.machine_world.specs.Held.{outside, IsHeld, AreHeld, Enters, Leaves, Swaps};
 ghost use Rattle.machine_world.specs.Held.{SameHolds, Recounts};
 ghost use Rattle.machine_world.specs.Tries.{CanDo, Answers, Refuses, Ends, Does, DoesPartly};
@@ -29,7 +29,7 @@ impl World {
         requires held { IsHeld self.now (To at) }
         ensures found { IfOk result (λ v. Answers self.now
             (λ store. item_of store.objects (ARef at.serial) (meant index.now)) (meant v.now)) }
-        ensures counted { IfOk result (λ v. (r : Reference) → hits r v.now ≤ count self.now.heap r) }
+        ensures counted { IfOk result (λ v. CanBeHeld self.now.heap v.now) }
         ensures trap { IfErr result (Refuses self.now
             (λ store. item_of store.objects (ARef at.serial) (meant index.now))) }
     {

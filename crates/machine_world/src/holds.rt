@@ -1,12 +1,12 @@
 //! What holds objects: copies of values, and values that are let go.
-ghost use Rattle.std.specs.Prelude.{◌≡◌, ◌≤◌, ℕ, IfOk, OnOk, OnErr};
-ghost use Rattle.ck_values.specs.declared.reference.Ref.{Ref as Reference};
+ghost use Rattle.std.specs.Prelude.{◌≡◌, IfOk, OnOk, OnErr};
 ghost use Rattle.ck_values.specs.declared.value.Value.TheVariants.{Ref as To};
 ghost use Rattle.ck_values.specs.Datum.{meant};
 ghost use Rattle.ck_store.specs.Steps.{static_of};
-ghost use Rattle.counted_heap.specs.Counted.{count, live, NoneChained};
-ghost use Rattle.counted_heap.specs.Places.{hit};
-ghost use Rattle.machine_world.specs.Held.{IsHeld, Enters, Leaves, SameHolds, Recounts, dac, blackhole};
+ghost use Rattle.counted_heap.specs.Counted.{live, NoneChained};
+ghost use Rattle.value_ops.specs.Heaps.{CanBeHeld};
+ghost use Rattle.machine_world.specs.Held.{IsHeld, Enters, Leaves, SameHolds, Recounts};
+ghost use Rattle.machine_world.specs.Held.{OwnsHeld, dac, blackhole};
 ghost use Rattle.machine_world.specs.Tries.{CanDo, Answers, Becomes};
 
 use crate::world::World;
@@ -23,9 +23,10 @@ const BLACKHOLE: Ref = Ref { serial: 2, slot: 1 };
 impl World {
     // One more hold of a live object, or of none where the reference is null. `Memory` comes where
     // it is held 2^64 - 1 times.
+    #[tactic(auto, using(crate::proofs::Outside::holding))]
     #[inline(always)]
     pub(crate) fn hold(&mut self, at: Ref) -> Result<(), Memory>
-        requires { (r : Reference) → hit r at ≤ count self.old.heap r }
+        requires { CanBeHeld self.old.heap (To at) }
         ensures holds { OnOk result (Enters self.old self.new (To at)) }
         ensures only { OnOk result (Recounts self.old self.new) }
         ensures same { OnErr result (self.new ≡ self.old) }
@@ -37,6 +38,7 @@ impl World {
     }
 
     /// An equal value, and one more hold of what it refers to. Ints and floats go the short way.
+    #[tactic(auto, using(crate::proofs::Outside::can_be_held))]
     #[inline(always)]
     pub fn copied(&mut self, alloc: Global, v: &Value) -> Result<Value, Memory>
         requires { IsHeld self.old v.now }
@@ -55,6 +57,7 @@ impl World {
     }
 
     /// A copy of the static with this number, and one more hold of what it refers to.
+    #[tactic(auto, using(crate::proofs::Outside::can_be_held))]
     #[inline(always)]
     pub fn static_copy(&mut self, alloc: Global, i: u32) -> Result<Value, Memory>
         requires { CanDo self.old (λ store. static_of store i) }
@@ -79,6 +82,7 @@ impl World {
         ensures only { OnOk result (Recounts self.old self.new) }
         ensures same { OnErr result (self.new ≡ self.old) }
     {
+        self.law();
         self.hold(DAC)?;
         Ok(Value::Ref(DAC))
     }
@@ -90,11 +94,13 @@ impl World {
         ensures only { OnOk result (Recounts self.old self.new) }
         ensures same { OnErr result (self.new ≡ self.old) }
     {
+        self.law();
         self.hold(BLACKHOLE)?;
         Ok(Value::Ref(BLACKHOLE))
     }
 
     /// Lets a value go, and its hold of what it refers to. It takes no memory.
+    #[tactic(auto, using(crate::proofs::Outside::holding))]
     #[inline(always)]
     pub fn let_go(&mut self, v: Value)
         requires { IsHeld self.old v }
@@ -107,6 +113,7 @@ impl World {
     }
 
     /// Lets a reference go, and its hold.
+    #[tactic(auto, using(crate::proofs::Outside::holding))]
     #[inline(always)]
     pub fn let_reference_go(&mut self, at: Ref)
         requires { IsHeld self.old (To at) }
@@ -119,13 +126,24 @@ impl World {
     }
 
     /// Takes out all objects that nothing refers to any more. It takes no memory.
+    #[tactic(auto, using(crate::proofs::Outside::holding))]
     pub fn reap(&mut self)
         ensures none { NoneChained self.new.heap }
         ensures holds { SameHolds self.old self.new }
         ensures kept { self.new ≡ record self.old { heap = self.new.heap } }
         ensures stands { Becomes self.old (λ store. store) self.new }
     {
-        'reaped: while let Some(_body) = self.heap.reap() {}
+        self.heap.law();
+        'reaped: while let Some(_body) = self.heap.reap() {
+            self.heap.law();
+        }
+    }
+
+    /// What each world keeps: its own holds are among those of its heap. It does nothing.
+    pub fn law(&self)
+        ensures { OwnsHeld self.now }
+    {
+        let _statics = &self.statics;
     }
 
     /// How many objects are live.

@@ -8,10 +8,11 @@ ghost use Rattle.ck_values.specs.Datum.{meant, first_value, ARef};
 ghost use Rattle.ck_store.specs.Objects.{object_made, referred, field_of, with_field, method_of};
 ghost use Rattle.object_heap.specs.declared.body.Body.TheVariants.{Instance};
 ghost use Rattle.object_heap.specs.Objects.{values_of};
-ghost use Rattle.counted_heap.specs.Places.{hits, places};
-ghost use Rattle.counted_heap.specs.Counted.{object, count, Makes};
+ghost use Rattle.counted_heap.specs.Places.{places};
+ghost use Rattle.counted_heap.specs.Counted.{object, Makes};
 ghost use Rattle.counted_heap.specs.Stands.{StandsOn};
 ghost use Rattle.value_ops.specs.Ends.{OnTrap, OnWant};
+ghost use Rattle.value_ops.specs.Heaps.{CanBeHeld};
 ghost use Rattle.machine_world.specs.Held.{IsHeld, Enters, Leaves, Swaps, Recounts};
 ghost use Rattle.machine_world.specs.Tries.{CanDo, Answers, Refuses, Ends, Does, Becomes};
 
@@ -69,7 +70,7 @@ impl World {
         requires held { IsHeld self.now (To at) }
         ensures found { IfOk result (λ v.
             Answers self.now (λ store. field_of store (ARef at.serial) i) (meant v.now)) }
-        ensures counted { IfOk result (λ v. (r : Reference) → hits r v.now ≤ count self.now.heap r) }
+        ensures counted { IfOk result (λ v. CanBeHeld self.now.heap v.now) }
         ensures null { IfErr result
             (Refuses self.now (λ store. field_of store (ARef at.serial) i)) }
     {

@@ -16,7 +16,7 @@ ghost use Rattle.counted_heap.specs.Counted.{Makes};
 ghost use Rattle.counted_heap.specs.Counted as counted;
 ghost use Rattle.counted_heap.specs.Places.{hit};
 ghost use Rattle.counted_heap.specs.Stands.{StandsOn};
-ghost use Rattle.value_ops.specs.Heaps.{HasObjects};
+ghost use Rattle.value_ops.specs.Heaps.{HasObjects, CanBeHeld};
 ghost use Rattle.machine_world.specs.Held.{outside, dac, blackhole, IsHeld, Swaps, SameHolds};
 ghost use Rattle.machine_world.specs.Tries.{CanDo, Answers, Does, Becomes, Reads};
 ghost use Rattle.machine_world.specs.Worlds.{counted as counted_by, StandsFor};
@@ -172,16 +172,17 @@ impl World {
     }
 
     /// The static with this number.
-    #[tactic(auto, using(crate::proofs::Numbered::statics_read))]
+    #[tactic(auto, using(crate::proofs::Stands::statics))]
     pub fn static_at(&self, i: u32) -> &Value
         requires { CanDo self.now (λ store. static_of store i) }
-        ensures { Answers self.now (λ store. static_of store i) (meant result.now) }
+        ensures found { Answers self.now (λ store. static_of store i) (meant result.now) }
+        ensures counted { CanBeHeld self.now.heap result.now }
     {
         &self.statics.items()[i as usize]
     }
 
     /// Puts a value in the place of a static, which is handed back.
-    #[tactic(auto, using(crate::proofs::Numbered::statics))]
+    #[tactic(auto, using(crate::proofs::Stands::statics))]
     pub fn set_static(&mut self, i: u32, v: Value) -> Value
         requires static { CanDo self.old (λ store. with_static store i (meant v)) }
         requires value { IsHeld self.old v }
