@@ -14,6 +14,7 @@ pub mod Indexed
 pub mod Stands
 pub mod Outside
 pub mod Instances
+pub mod Leaving
 pub mod Follows
 pub mod Picked
 pub mod Drawn
