@@ -5,3 +5,4 @@ pub mod Found
 pub mod Called
 pub mod Updated
 pub mod Meant
+pub mod Holds

@@ -20,7 +20,7 @@ use std::alloc::Global;
 use value_ops::{OpEnd, binary, of_ints};
 
 /// Puts a local on the top. A float or an int goes the short way.
-#[tactic(auto, using(machine_world::proofs::Numbered::locals), unfolding(machine_world::specs::Shown::shown))]
+#[tactic(auto, using(crate::proofs::Holds::local_held, machine_world::proofs::Numbered::locals), unfolding(machine_world::specs::Shown::shown))]
 #[inline(always)]
 pub fn put_local(
     alloc: Global,
@@ -83,7 +83,7 @@ pub fn put_static(
 }
 
 /// Sets a local to the operand on the top, which stays there. An int or a float goes the short way.
-#[tactic(auto, using(machine_world::proofs::Operands::operands, machine_world::proofs::Numbered::locals), unfolding(machine_world::specs::Shown::shown))]
+#[tactic(auto, using(crate::proofs::Holds::holding, machine_world::proofs::Operands::operands, machine_world::proofs::Numbered::locals), unfolding(machine_world::specs::Shown::shown))]
 #[inline(always)]
 pub fn set_local(
     alloc: Global,
@@ -122,7 +122,7 @@ pub fn set_local(
 
 /// Sets a static to the operand on the top, which stays there. An int or a float goes the short
 /// way.
-#[tactic(auto, using(machine_world::proofs::Operands::operands), unfolding(machine_world::specs::Shown::shown))]
+#[tactic(auto, using(crate::proofs::Holds::holding, machine_world::proofs::Operands::operands), unfolding(machine_world::specs::Shown::shown))]
 #[inline(always)]
 pub fn set_static(
     alloc: Global,

@@ -19,3 +19,6 @@ pub mod Follows
 pub mod Picked
 pub mod Drawn
 pub mod Operands
+pub mod Carried
+pub mod Referred
+pub mod Plain

@@ -19,7 +19,7 @@ set_static-requires c =
     let n = c.in-Ok.n in
     let fits : SFits w64 n = search rules in
     let sets = static_sets _ _ _ c.args.i c.args.operator _ c.peek-operand.ensures c.requires.is can
-    c.static_at.result.now (c.static_at.ensures can.store can.stands) (Int n)
+    c.static_at.result.now (c.static_at.ensures.found can.store can.stands) (Int n)
     (grind (arith, common_steps)) in
     subst (λ m. CanDo c.args.world.now (λ store. with_static store c.args.i (AnInt m)))
     (sym (to_z-of_z w64 n fits)) sets
