@@ -20,6 +20,7 @@ use Rattle.object_heap.specs.declared.body.Body.{Body}
 use Rattle.object_heap.specs.declared.body.Body.TheVariants.{Instance, Array, Ugen}
 use Rattle.object_heap.specs.Objects.{values_of, with_values, with_body}
 use Rattle.shred_state.specs.Values.{first_value as first_held}
+use Rattle.counted_heap.specs.Counted as counted
 use Rattle.counted_heap.specs.Counted.{Counted, object, count, IsLawful, Makes, Rewrites}
 use Rattle.counted_heap.specs.Places.{hits, places}
 use Rattle.counted_heap.specs.Stands.{StandsOn}
@@ -289,3 +290,8 @@ hits-first r (Grid e) = hit-null r _ refl
 pub places-first : (r : Ref) (kinds : List Kind) → places r (map first_held kinds) ≡ 0
 places-first r [] = refl
 places-first r (k ∷ kinds) = omega (arith, hits-first r k, places-first r kinds)
+
+-- a new object is held once, where its body is no hold
+pub made_enters : (old new : Counted) (at : Ref) (b : Body) → Makes old new at b
+    → ((r : Ref) → places r (values_of b) ≡ 0) → counted.Enters old new (To at)
+made_enters old new at b makes none r = omega (arith, makes.moves r, none r)

@@ -14,7 +14,11 @@ pub mod Indexed
 pub mod Stands
 pub mod Outside
 pub mod Instances
+pub mod Leaving
 pub mod Follows
 pub mod Picked
 pub mod Drawn
 pub mod Operands
+pub mod Carried
+pub mod Located
+pub mod Referred

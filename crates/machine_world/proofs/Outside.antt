@@ -40,6 +40,11 @@ can_be_held world v held r = omega (arith, held r, outside_counts world r)
 pub is_among : (world : Parts) (v : Value) → IsHeld world v → heap.IsAmong world.heap v
 is_among world v held r = omega (arith, held r, outside_heap world r)
 
+pub among_inside : (inside world : Parts) (v : Value) → inside ≡ world → IsHeld world v
+    → heap.IsAmong inside.heap v
+among_inside inside world v is held =
+    subst (λ (w : Parts). heap.IsAmong w.heap v) (sym is) (is_among world v held)
+
 -- what isn't null refers to itself
 pub hit_self : (at : Ref) → at.serial ≢ 0 → hit at at ≡ 1
 hit_self at some = hit-same at at (omega (arith, some)) refl refl
@@ -98,6 +103,17 @@ module _ (inside world : Parts) (new : Counted) (is : inside ≡ world) (owns : 
       → Leaves world (record inside { heap = new }) v
   unfolding outside
   left v leaves held r = omega (arith, owns r, leaves r, held r, same_outside r)
+
+  -- a value that goes, and another one that comes
+  module _ (gone come : Value)
+      (trades : (r : Ref) → heap.outside new r + hits r gone ≡ heap.outside inside.heap r + hits r come)
+      (held : IsHeld world gone) where
+    pub owns_swapped : OwnsHeld (record inside { heap = new })
+    owns_swapped r = omega (arith, owns r, trades r, held r, same_outside r, outside_own inside owns r)
+
+    pub swapped : Swaps world (record inside { heap = new }) gone come
+    unfolding outside
+    swapped r = omega (arith, owns r, trades r, held r, same_outside r)
 
 -- unit generators are as they were ----------------------------------------------------------------
 

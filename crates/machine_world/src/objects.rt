@@ -1,10 +1,11 @@
 //! Objects of a world: how they are made, and their fields and methods.
-ghost use Rattle.std.specs.Prelude.{◌≡◌, ◌≤◌, [], ◌++◌, ◌∷◌, map, Some, IfOk, IfErr, OnOk, OnErr};
+ghost use Rattle.std.specs.Prelude.{◌≡◌, ◌≤◌, ◌+◌, [], ◌++◌, ◌∷◌, map, Some, IfOk, IfErr, OnOk, OnErr};
 ghost use Rattle.ck_base.specs.declared.limits.TheConstants.{MAX_OBJECTS};
 ghost use Rattle.ck_values.specs.declared.reference.Ref.{Ref as Reference};
 ghost use Rattle.ck_values.specs.declared.trap.Trap.TheVariants.{ObjectLimit};
 ghost use Rattle.ck_values.specs.declared.value.Value.TheVariants.{Ref as To};
-ghost use Rattle.ck_values.specs.Datum.{meant, first_value, ARef};
+ghost use Rattle.ck_values.specs.Datum.{meant, ARef};
+ghost use Rattle.shred_state.specs.Values.{first_value};
 ghost use Rattle.ck_store.specs.Objects.{object_made, referred, field_of, with_field, method_of};
 ghost use Rattle.object_heap.specs.declared.body.Body.TheVariants.{Instance};
 ghost use Rattle.object_heap.specs.Objects.{values_of};

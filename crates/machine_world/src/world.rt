@@ -184,7 +184,7 @@ impl World {
     /// Puts a value in the place of a static, which is handed back.
     #[tactic(auto, using(crate::proofs::Stands::statics))]
     pub fn set_static(&mut self, i: u32, v: Value) -> Value
-        requires static { CanDo self.old (λ store. with_static store i (meant v)) }
+        requires variable { CanDo self.old (λ store. with_static store i (meant v)) }
         requires value { IsHeld self.old v }
         ensures set { Does self.old (λ store. with_static store i (meant v)) (λ after. after)
             self.new }
@@ -242,7 +242,7 @@ fn first_heap(alloc: Global) -> Result<CountedHeap, Memory>
 fn add_first(heap: &mut CountedHeap, body: Body) -> Result<(), Memory>
     requires room { heap.old.next ≤ MAX_OBJECTS }
     requires plain { values_of body ≡ [] }
-    ensures { OnOk result ((at : Reference) × Makes heap.old heap.new at body) }
+    ensures made { OnOk result ((at : Reference) × Makes heap.old heap.new at body) }
     ensures stands { OnOk result
         (StandsOn heap.old heap.new (λ s. record s { bodies = s.bodies ++ body ∷ [] })) }
 {
