@@ -22,3 +22,4 @@ pub mod Operands
 pub mod Carried
 pub mod Located
 pub mod Referred
+pub mod Plain

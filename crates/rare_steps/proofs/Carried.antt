@@ -1,28 +1,47 @@
 -- An instruction that was carried out where there was memory for it.
-use Rattle.std.proofs.Common.{◌≡◌, ◌∙◌, refl, ap, sym, subst, List, [], ◌∷◌, drop, Some, slice_get, unwrap_or, Result}
-use Rattle.std.proofs.Common.{Ok, Err, IfOk, OnOk}
+use Rattle.std.proofs.Common.{◌≡◌, ◌+◌, ◌∙◌, refl, ap, sym, subst, List, [], ◌∷◌, drop, Some, slice_get, unwrap_or, Result}
+use Rattle.std.proofs.Common.{Ok, Err, IfOk, OnOk, arith}
+use Rattle.ck_values.specs.declared.reference.Ref.{Ref}
 use Rattle.ck_values.specs.declared.value.Value.{Value}
 use Rattle.ck_code.specs.declared.code.CodeParts.{CodeParts}
 use Rattle.ck_code.specs.declared.code.Step.{Step}
 use Rattle.ck_store.specs.Store.{Store}
 use Rattle.fixed_point.specs.declared.memory.Memory.{Memory}
+use Rattle.counted_heap.specs.Places.{hits}
+use Rattle.machine_world.specs.Held.{in_shred, in_then, outside, Recounts}
 use Rattle.shred_state.specs.Frames.{Standing}
-use Rattle.machine_world.specs.Scenes.{Scene, scene, effect_over, Carries, CarriesIn, CarriesAlone}
-use Rattle.machine_world.specs.Steps.{Follows, IsSame, Stays}
+use Rattle.machine_world.specs.Scenes.{Scene, scene, effect_over, Balances, Carries, CarriesIn, CarriesAlone}
+use Rattle.machine_world.specs.Steps.{Follows, IsSame, Stays, next_standing}
 use Rattle.machine_world.specs.Worlds.{Parts, StandsFor}
 use Rattle.machine_world.specs.declared.acts.Act.{Act}
 use Rattle.machine_world.specs.declared.course.Then.{Then}
+use Rattle.machine_world.specs.declared.course.Then.TheVariants.{GoesOn}
 use Rattle.machine_world.proofs.Results.{ok_then}
+
+-- holds came and went from outside as the shred, and what the slice stops for, hold more or less
+abbrev pub BalancesIn : (before : Parts) → Then → (old new : Standing) → (after : Parts) → Type 0
+BalancesIn before then old new after = (r : Ref) →
+    outside after r + in_shred r old ≡ outside before r + (in_shred r new + in_then r then)
+
+-- a value was put on the top
+pub put_balances : (result : Result Then Memory) (before after : Parts) (old mid new : Standing)
+    (v : Value) → IfOk result (λ then. then ≡ GoesOn)
+    → OnOk result (new ≡ next_standing mid mid.top.locals (v ∷ mid.top.operands))
+    → ((r : Ref) → outside after r + in_shred r old ≡ outside before r + (in_shred r mid + hits r v))
+    → IfOk result (λ then. BalancesIn before then old new after)
+put_balances (Ok then) before after old mid new v goes put counts = λ r.
+    omega (arith, counts r, ap (in_shred r) put, ap (in_then r) goes)
+put_balances (Err memory) before after old mid new v goes put counts = tt
 
 pub carried : (result : Result Then Memory) (code : CodeParts) (step : Step) (old new : Scene)
     → OnOk result (IsSame old.shred new.shred)
     → IfOk result (λ then. Stays then old.shred new.shred) → new.world.ran ≡ old.world.ran
     → ((store : Store) → StandsFor old.world store → IfOk result (λ then.
     Follows then (effect_over code step old store) step.place new.shred new.world new.acts))
-    → IfOk result (λ then. Carries code step then old new)
-carried (Ok then) code step old new same stays ran follows =
-    record { follows = follows; same = same; stays = stays; ran = ran }
-carried (Err memory) code step old new same stays ran follows = tt
+    → IfOk result (λ then. Balances then old new) → IfOk result (λ then. Carries code step then old new)
+carried (Ok then) code step old new same stays ran follows balances =
+    record { follows = follows; balances = balances; same = same; stays = stays; ran = ran }
+carried (Err memory) code step old new same stays ran follows balances = tt
 
 -- the same of one that looks at the shred and the world alone
 pub carried_in : (result : Result Then Memory) (step : Step) (before after : Parts)
@@ -31,10 +50,16 @@ pub carried_in : (result : Result Then Memory) (step : Step) (before after : Par
     → ((code : CodeParts) (acts : List Act) (store : Store) → StandsFor before store →
     IfOk result (λ then. Follows then (effect_over code step (scene old before acts) store)
     step.place new after acts))
+    → IfOk result (λ then. BalancesIn before then old new after)
     → IfOk result (λ then. CarriesIn before step then old new after)
-carried_in (Ok then) step before after old new same stays ran follows = λ code acts.
-    record { follows = follows code acts; same = same; stays = stays; ran = ran }
-carried_in (Err memory) step before after old new same stays ran follows = tt
+carried_in (Ok then) step before after old new same stays ran follows counts = λ code acts. record {
+  follows = follows code acts;
+  balances = λ r. omega (arith, counts r);
+  same = same;
+  stays = stays;
+  ran = ran;
+}
+carried_in (Err memory) step before after old new same stays ran follows counts = tt
 
 -- and of one that looks at the shred alone
 pub carried_alone : (result : Result Then Memory) (step : Step) (old new : Standing)
@@ -42,10 +67,20 @@ pub carried_alone : (result : Result Then Memory) (step : Step) (old new : Stand
     → ((world : Parts) (code : CodeParts) (acts : List Act) (store : Store) →
     StandsFor world store → IfOk result (λ then. Follows then
     (effect_over code step (scene old world acts) store) step.place new world acts))
+    → IfOk result (λ then. (r : Ref) → in_shred r old ≡ in_shred r new + in_then r then)
     → IfOk result (λ then. CarriesAlone step then old new)
-carried_alone (Ok then) step old new same stays follows = λ world code acts.
-    record { follows = follows world code acts; same = same; stays = stays; ran = refl }
-carried_alone (Err memory) step old new same stays follows = tt
+carried_alone (Ok then) step old new same stays follows counts = λ world code acts. record {
+  follows = follows world code acts;
+  balances = λ r. omega (arith, counts r);
+  same = same;
+  stays = stays;
+  ran = refl;
+}
+carried_alone (Err memory) step old new same stays follows counts = tt
+
+-- counts change no number of instructions
+pub still_ran : (a b c : Parts) → b.ran ≡ a.ran → Recounts b c → c.ran ≡ a.ran
+still_ran a b c ran only = ap (λ (w : Parts). w.ran) only.kept ∙ ran
 
 -- from where it began to where it came
 pub carries_between : (code : CodeParts) (step : Step) (then goes : Then) (old was new comes : Scene)

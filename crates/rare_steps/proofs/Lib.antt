@@ -6,3 +6,4 @@ pub mod Sporked
 pub mod Keyed
 pub mod Found
 pub mod Carried
+pub mod Changes

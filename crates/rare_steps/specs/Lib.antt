@@ -1,2 +1,3 @@
 pub mod Rare
 pub mod Keys
+pub mod Updates

@@ -1,12 +1,20 @@
 //! Instructions on arrays.
-ghost use Rattle.std.specs.Prelude.{◌≡◌, IfOk};
+ghost use Rattle.std.specs.Prelude.{◌≡◌, IfOk, IfErr};
+ghost use Rattle.ck_values.specs.declared.reference.Ref.{Ref as Reference};
+ghost use Rattle.ck_values.specs.declared.value.Value.TheVariants.{Ref as To};
+ghost use Rattle.ck_values.specs.Datum.{meant, ARef};
 ghost use Rattle.ck_code.specs.declared.instr.Instr.TheVariants.{OpItem, Each, Fill};
 ghost use Rattle.ck_code.specs.declared.instr.Instr.TheVariants.{Native as BuiltIn};
 ghost use Rattle.ck_typed.specs.declared.native.Native.TheVariants.{Size, Clear};
+ghost use Rattle.counted_heap.specs.Places.{hits};
+ghost use Rattle.value_ops.specs.Ends.{OnTrap};
+ghost use Rattle.machine_world.specs.Held.{IsHeld, Recounts, SameHolds};
 ghost use Rattle.machine_world.specs.Scenes.{CanRunIn, CarriesIn};
+ghost use Rattle.machine_world.specs.Tries.{CanDo, Does, Refuses};
+ghost use Rattle.rare_steps.specs.Updates.{item_made};
 
 use ck_code::Step;
-use ck_values::{Op2, Value};
+use ck_values::{Op2, Ref, Value};
 use fixed_point::Memory;
 use machine_world::{Stop, Then, World, go_on, let_int_go, put, reference};
 use shred_state::Shred;
@@ -15,6 +23,7 @@ use value_ops::{OpEnd, binary};
 
 /// Sets an item of the array beneath the index on the top to what an operator makes of it and of
 /// the operand beneath both, which it replaces, or stops by the trap.
+#[tactic(auto, using(crate::proofs::Changes::item_changes), unfolding(machine_world::specs::Shown::shown))]
 pub(crate) fn update_item(
     alloc: Global,
     at: &Step,
@@ -30,28 +39,52 @@ pub(crate) fn update_item(
     let index = shred.pop();
     let array = reference(&shred.pop());
     let operand = shred.pop();
-    let made = match world.item(array, &index) {
-        Ok(old) => binary(alloc, operator, old, &operand),
-        Err(trap) => Err(OpEnd::Trap(trap)),
-    };
+    let made = change_item(alloc, world, array, &index, operator, &operand);
     world.let_go(operand);
-    let v = match made {
-        Ok(v) => v,
-        Err(OpEnd::Trap(trap)) => {
-            world.let_reference_go(array);
-            return Ok(Then::Stopped(Stop::Trapped(trap, at.place)));
-        }
-        Err(OpEnd::Memory(memory)) => return Err(memory),
-    };
-    let copy = world.copied(alloc, &v)?;
-    let set = world.set_item(array, &index, copy);
+    world.let_go(index);
     world.let_reference_go(array);
-    match set {
+    match made {
+        Ok(v) => put(shred, v),
+        Err(OpEnd::Trap(trap)) => Ok(Then::Stopped(Stop::Trapped(trap, at.place))),
+        Err(OpEnd::Memory(memory)) => Err(memory),
+    }
+}
+
+// Sets an item of an array that is held to what an operator makes of it and of an operand, and
+// gives that, or ends by the trap.
+fn change_item(
+    alloc: Global,
+    world: &mut World,
+    array: Ref,
+    index: &Value,
+    operator: Op2,
+    operand: &Value,
+) -> Result<Value, OpEnd>
+    requires held { IsHeld world.old (To array) }
+    requires can { CanDo world.old (λ store.
+        item_made store (ARef array.serial) (meant index.now) operator (meant operand.now)) }
+    ensures made { IfOk result (λ v. Does world.old (λ store.
+        item_made store (ARef array.serial) (meant index.now) operator (meant operand.now))
+        (λ after. record { value = meant v; store = after }) world.new) }
+    ensures plain { IfOk result (λ v. (r : Reference) → hits r v ≡ 0) }
+    ensures trap { IfErr result (λ end. OnTrap end (Refuses world.old (λ store.
+        item_made store (ARef array.serial) (meant index.now) operator (meant operand.now)))) }
+    ensures same { IfErr result (λ end. OnTrap end (Recounts world.old world.new)) }
+    ensures holds { SameHolds world.old world.new }
+    ensures ran { world.new.ran ≡ world.old.ran }
+{
+    let old = match world.item(array, index) {
+        Ok(old) => old,
+        Err(trap) => return Err(OpEnd::Trap(trap)),
+    };
+    let v = binary(alloc, operator, old, operand)?;
+    let copy = world.copied(alloc, &v)?;
+    match world.set_item(array, index, copy) {
         Ok(old) => {
             world.let_go(old);
-            put(shred, v)
+            Ok(v)
         }
-        Err(trap) => Ok(Then::Stopped(Stop::Trapped(trap, at.place))),
+        Err(trap) => Err(OpEnd::Trap(trap)),
     }
 }
 
@@ -91,7 +124,9 @@ pub(crate) fn fill(at: &Step, shred: &mut Shred, world: &mut World) -> Result<Th
     let v = shred.pop();
     let index = shred.pop();
     let array = reference(shred.peek());
-    match world.fill(array, &index, v) {
+    let filled = world.fill(array, &index, v);
+    world.let_go(index);
+    match filled {
         Ok(next) => put(shred, Value::Int(next)),
         Err(trap) => Ok(Then::Stopped(Stop::Trapped(trap, at.place))),
     }

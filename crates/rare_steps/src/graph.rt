@@ -9,7 +9,7 @@ ghost use Rattle.machine_world.specs.Scenes.{CanRunIn, CarriesIn};
 ghost use Rattle.machine_world.specs.Steps.{next_standing};
 
 use ck_code::Step;
-use ck_values::{Ref, Value};
+use ck_values::{Trap, Value};
 use fixed_point::Memory;
 use machine_world::{Stop, Then, World, put, reference};
 use shred_state::Shred;
@@ -70,8 +70,13 @@ pub(crate) fn connect(at: &Step, shred: &mut Shred, world: &mut World) -> Result
     ensures carries { IfOk result (λ then.
         CarriesIn world.old at.now then shred.old shred.new world.new) }
 {
-    let to = reference(&shred.pop());
+    let to = shred.pop();
     let from = reference(&shred.pop());
+    if from.serial == 0 {
+        world.let_go(to);
+        return Ok(Then::Stopped(Stop::Trapped(Trap::NullPointer, at.place)));
+    }
+    let to = reference(&to);
     let connected = world.connect(from, to);
     world.let_reference_go(from);
     match connected {
@@ -92,8 +97,13 @@ pub(crate) fn disconnect(at: &Step, shred: &mut Shred, world: &mut World) -> Res
     ensures carries { IfOk result (λ then.
         CarriesIn world.old at.now then shred.old shred.new world.new) }
 {
-    let to = reference(&shred.pop());
+    let to = shred.pop();
     let from = reference(&shred.pop());
+    if from.serial == 0 {
+        world.let_go(to);
+        return Ok(Then::Stopped(Stop::Trapped(Trap::NullPointer, at.place)));
+    }
+    let to = reference(&to);
     let disconnected = world.disconnect(from, to);
     world.let_reference_go(from);
     match disconnected {
@@ -141,6 +151,9 @@ pub(crate) fn set_parameter(
         CarriesIn world.old at.now then shred.old shred.new world.new) }
 {
     let v = shred.pop();
+    if let Value::Ref(to) = &v {
+        world.let_reference_go(*to);
+    }
     let unit = reference(&shred.pop());
     let set = world.set_parameter(alloc, unit, p, v);
     world.let_reference_go(unit);
