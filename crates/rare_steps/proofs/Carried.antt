@@ -33,6 +33,21 @@ put_balances (Ok then) before after old mid new v goes put counts = λ r.
     omega (arith, counts r, ap (in_shred r) put, ap (in_then r) goes)
 put_balances (Err memory) before after old mid new v goes put counts = tt
 
+-- what goes on where the value was put
+pub when_put : (result : Result Then Memory) (A : Type 0) (P : Then → Type 0)
+    → IfOk result (λ then. then ≡ GoesOn) → OnOk result A → (A → P GoesOn) → IfOk result P
+when_put (Ok then) A P goes put on = subst P (sym goes) (on put)
+when_put (Err memory) A P goes put on = tt
+
+pub alone_balances : (result : Result Then Memory) (old mid new : Standing)
+    (v : Value) → IfOk result (λ then. then ≡ GoesOn)
+    → OnOk result (new ≡ next_standing mid mid.top.locals (v ∷ mid.top.operands))
+    → ((r : Ref) → in_shred r old ≡ in_shred r mid + hits r v)
+    → IfOk result (λ then. (r : Ref) → in_shred r old ≡ in_shred r new + in_then r then)
+alone_balances (Ok then) old mid new v goes put counts = λ r.
+    omega (arith, counts r, ap (in_shred r) put, ap (in_then r) goes)
+alone_balances (Err memory) old mid new v goes put counts = tt
+
 pub carried : (result : Result Then Memory) (code : CodeParts) (step : Step) (old new : Scene)
     → OnOk result (IsSame old.shred new.shred)
     → IfOk result (λ then. Stays then old.shred new.shred) → new.world.ran ≡ old.world.ran

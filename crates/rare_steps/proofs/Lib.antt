@@ -7,3 +7,4 @@ pub mod Keyed
 pub mod Found
 pub mod Carried
 pub mod Changes
+pub mod Plains

@@ -1,10 +1,13 @@
 //! Events: waits for them, and calls that wake those who wait.
-ghost use Rattle.std.specs.Prelude.{◌≡◌, MatchResult, IfOk};
+ghost use Rattle.std.specs.Prelude.{◌≡◌, MatchResult, IfOk, OnErr};
+ghost use Rattle.ck_values.specs.declared.reference.Ref.{Ref as Reference};
+ghost use Rattle.ck_values.specs.declared.value.Value.TheVariants.{Ref as To};
 ghost use Rattle.ck_values.specs.Datum.{meant};
 ghost use Rattle.ck_code.specs.declared.code.CodeParts.{CodeParts};
 ghost use Rattle.ck_code.specs.declared.instr.Instr.TheVariants.{WaitEvent, Native as BuiltIn};
 ghost use Rattle.ck_store.specs.Shreds.{event_of};
 ghost use Rattle.ck_store.specs.Store.{Gives, Fails, IsFitting};
+ghost use Rattle.counted_heap.specs.Places.{hits};
 ghost use Rattle.ck_typed.specs.declared.native.Native.TheVariants.{Signal, Broadcast};
 ghost use Rattle.machine_world.specs.Scenes.{scene, CanRunAlone, Carries, CarriesAlone};
 ghost use Rattle.machine_world.specs.Worlds.{Parts};
@@ -16,12 +19,14 @@ use machine_world::{Act, Acts, Stop, Then, put};
 use shred_state::Shred;
 
 // The event that a value refers to; null is a trap.
-#[tactic(auto, unfolding(ck_store::specs::Shreds::event_of))]
+#[tactic(auto, using(machine_world::proofs::Referred::nulls), unfolding(ck_store::specs::Shreds::event_of))]
 fn event(v: &Value) -> Result<Ref, Trap>
     requires { IsFitting (event_of (meant v.now)) }
-    ensures { MatchResult result
+    ensures found { MatchResult result
         (λ event. event_of (meant v.now) ≡ Gives event.serial)
         (λ trap. event_of (meant v.now) ≡ Fails trap) }
+    ensures same { IfOk result (λ event. v.now ≡ To event) }
+    ensures null { OnErr result ((r : Reference) → hits r v.now ≡ 0) }
 {
     match v {
         Value::Ref(at) => {

@@ -21,13 +21,3 @@ reference-array-requires c =
     array_refers can.store.objects r (clear_array can.store r
     (one_taken (cleared can.store) _ _ r (taken_meant _ _ _ c.pop.ensures)
     (clear_takes _ _ (native_fits _ _ _ Clear c.requires.is can))))
-
-pub returns-in-Ok : goal.returns-in-Ok
-unfolding shown native
-returns-in-Ok c = record {
-  carries = carried_in c.put.result c.args.at.now c.args.world.now c.clear.new.self
-      c.args.shred.now c.put.new.shred (grind (arith, common_steps)) (grind (arith, common_steps))
-      c.in-Ok.ensures.ran (λ code acts store stands.
-      let made = c.in-Ok.ensures.cleared store stands in
-      follows_same _ made.store made.stands c.put.result _ _ _ _ (grind (arith, common_steps)));
-}

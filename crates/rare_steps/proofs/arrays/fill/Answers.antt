@@ -24,32 +24,3 @@ reference-array-requires c =
     (first_of_two (λ r i. filled store r i v) _ _ i (taken_meant _ _ _ c.pop-index.ensures)
     (first_of_three (filled store) _ _ v (taken_meant _ _ _ c.pop-v.ensures)
     (fill_fits _ _ _ c.requires.is c.requires.can.can)))))
-
-pub returns-in-Ok : goal.returns-in-Ok
-unfolding shown
-returns-in-Ok c = record {
-  carries = carried_in c.put.result c.args.at.now c.args.world.now c.fill.new.self
-      c.args.shred.now c.put.new.shred (grind (arith, common_steps)) (grind (arith, common_steps))
-      c.in-Ok.ensures.ran (λ code acts store stands.
-      let made = c.in-Ok.ensures.filled store stands in
-      let top = split_top c.pop-index.new.self.top.operands _ c.peek.ensures in
-      follows_same _ made.store made.stands c.put.result _ _ _ _ (grind (arith, common_steps, top)));
-}
-
-pub returns : goal.returns
-unfolding shown
-returns c = record {
-  carries = λ code acts. record {
-    follows = λ store stands.
-        let null = c.in-Err.ensures.null store stands in
-        let top = split_top c.pop-index.new.self.top.operands _ c.peek.ensures in
-        record {
-          store = store;
-          stands = subst (λ world. StandsFor world store) (sym c.in-Err.ensures.same) stands;
-          so = grind (arith, common_steps, top);
-        };
-    same = grind (arith, common_steps);
-    stays = grind (arith, common_steps);
-    ran = c.in-Err.ensures.ran;
-  };
-}

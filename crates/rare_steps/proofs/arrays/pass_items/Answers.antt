@@ -19,16 +19,3 @@ reference-array-requires c =
     (λ i fits. array_refers objects r (has_array objects r i fits))
     (operand_meant c.args.shred.now 1 _ c.operand.ensures)
     (each_fits _ _ _ c.args.to c.requires.is c.requires.can.can)
-
-pub returns-in-Err : goal.returns-in-Err
-unfolding shown
-returns-in-Err c = record {
-  carries = λ code acts. record {
-    follows = λ store stands.
-        let tops = split_two c.args.shred.now.top.operands _ _ c.peek.ensures c.operand.ensures in
-        record { store = store; stands = stands; so = grind (arith, common_steps, tops) };
-    same = record { number = refl; parent = refl; last = refl };
-    stays = refl;
-    ran = refl;
-  };
-}

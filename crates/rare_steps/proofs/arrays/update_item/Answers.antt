@@ -17,25 +17,15 @@ use Rattle.rare_steps.proofs.arrays.update_item.Goals as goal
 pub reference-array-requires : goal.reference-array-requires
 reference-array-requires c =
     let store = c.requires.can.can.store in
-    let r = meant c.pop-object.result in
+    let r = meant c.pop.result in
     let i = meant c.pop-index.result in
     let o = c.args.operator in
     whatever (IsReference r) (λ e. updated (item_of store.objects r i) o (with_item store r i) e)
-    (operands_of c.pop-object.new.self)
+    (operands_of c.pop.new.self)
     (λ e fits. array_refers store.objects r (item_array store.objects r i
     (old_fits (item_of store.objects r i) o (with_item store r i) e fits)))
     (first_of_two (λ e r. updated (item_of store.objects r i) o (with_item store r i) e) _ _ r
-    (taken_meant _ _ _ c.pop-object.ensures)
+    (taken_meant _ _ _ c.pop.ensures)
     (first_of_three (λ e r i. updated (item_of store.objects r i) o (with_item store r i) e) _ _ i
     (taken_meant _ _ _ c.pop-index.ensures)
     (op_item_fits _ _ _ o c.requires.is c.requires.can.can)))
-
-pub returns-in-Ok-set_item : goal.returns-in-Ok-set_item
-unfolding shown
-returns-in-Ok-set_item c = record {
-  carries = carried_in c.put.result c.args.at.now c.args.world.now c.set_item.new.self
-      c.args.shred.now c.put.new.shred (grind (arith, common_steps)) (grind (arith, common_steps))
-      c.in-Ok-set_item.ensures.ran (λ code acts store stands.
-      let made = c.in-Ok-set_item.ensures.set store stands in
-      follows_same _ made.store made.stands c.put.result _ _ _ _ (grind (arith, common_steps)));
-}

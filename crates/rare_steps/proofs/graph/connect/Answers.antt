@@ -20,13 +20,3 @@ reference-from-requires c =
     (one_taken (λ from. connected from to store) _ _ from (taken_meant _ _ _ c.pop.ensures)
     (first_of_two (λ from to. connected from to store) _ _ to (taken_meant _ _ _ c.pop-to.ensures)
     (connect_fits _ _ _ c.requires.is c.requires.can.can))))
-
-pub returns-in-Ok : goal.returns-in-Ok
-unfolding shown
-returns-in-Ok c = record {
-  carries = carried_in c.put.result c.args.at.now c.args.world.now c.connect.new.self
-      c.args.shred.now c.put.new.shred (grind (arith, common_steps)) (grind (arith, common_steps))
-      c.in-Ok.ensures.ran (λ code acts store stands.
-      let made = c.in-Ok.ensures.connected store stands in
-      follows_same _ made.store made.stands c.put.result _ _ _ _ (grind (arith, common_steps)));
-}

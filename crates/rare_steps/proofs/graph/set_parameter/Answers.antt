@@ -21,13 +21,3 @@ reference-unit-requires c =
     (one_taken (λ u. parameter_set p u v store) _ _ u (taken_meant _ _ _ c.pop.ensures)
     (first_of_two (λ u v. parameter_set p u v store) _ _ v (taken_meant _ _ _ c.pop-v.ensures)
     (set_parameter_fits _ _ _ p c.requires.is c.requires.can.can))))
-
-pub returns-in-Ok : goal.returns-in-Ok
-unfolding shown
-returns-in-Ok c = record {
-  carries = carried_in c.put.result c.args.at.now c.args.world.now c.set_parameter.new.self
-      c.args.shred.now c.put.new.shred (grind (arith, common_steps)) (grind (arith, common_steps))
-      c.in-Ok.ensures.ran (λ code acts store stands.
-      let made = c.in-Ok.ensures.set store stands in
-      follows_same _ made.store made.stands c.put.result _ _ _ _ (grind (arith, common_steps)));
-}

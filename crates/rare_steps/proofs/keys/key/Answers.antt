@@ -23,13 +23,3 @@ reference-unit-requires c =
     unit_refers can.store.objects u (change_first (keyed on) can.store u
     (one_taken (λ u. unit_keyed on u can.store) _ _ u (taken_meant _ _ _ c.pop.ensures)
     (key_takes on _ _ (native_fits _ _ _ (key_call on) c.requires.is can))))
-
-pub returns-in-Ok : goal.returns-in-Ok
-unfolding shown
-returns-in-Ok c = record {
-  carries = carried_in c.put.result c.args.at.now c.args.world.now c.key.new.self
-      c.args.shred.now c.put.new.shred (grind (arith, common_steps)) (grind (arith, common_steps))
-      c.in-Ok.ensures.ran (λ code acts store stands.
-      let made = c.in-Ok.ensures.keyed store stands in
-      follows_same _ made.store made.stands c.put.result _ _ _ _ (grind (arith, common_steps, key_called)));
-}

@@ -36,30 +36,3 @@ reference-unit-requires c =
     (one_taken (λ u. keyed_where on u n can.store) _ _ u (taken_meant _ _ _ c.pop-2.ensures)
     (first_of_two (λ u n. keyed_where on u n can.store) _ _ n (taken_meant _ _ _ c.pop.ensures)
     (key_where_takes on _ _ (native_fits _ _ _ (key_where_call on) c.requires.is can)))))
-
-pub returns-in-Ok : goal.returns-in-Ok
-unfolding shown
-returns-in-Ok c = record {
-  carries = carried_in c.put.result c.args.at.now c.args.world.now c.key.new.self
-      c.args.shred.now c.put.new.shred (grind (arith, common_steps)) (grind (arith, common_steps))
-      c.in-Ok.ensures.ran (λ code acts store stands.
-      let made = c.in-Ok.ensures.keyed store stands in
-      follows_same _ made.store made.stands c.put.result _ _ _ _ (grind (arith, common_steps, key_where_called)));
-}
-
-pub returns-in-Err : goal.returns-in-Err
-unfolding shown
-returns-in-Err c = record {
-  carries = λ code acts. record {
-    follows = λ store stands.
-        let null = c.in-Err.ensures.null store stands in
-        record {
-          store = store;
-          stands = subst (λ world. StandsFor world store) (sym c.in-Err.ensures.same) stands;
-          so = grind (arith, common_steps, key_where_called);
-        };
-    same = grind (arith, common_steps);
-    stays = grind (arith, common_steps);
-    ran = c.in-Err.ensures.ran;
-  };
-}

@@ -33,30 +33,3 @@ reference-unit-requires c =
     (staged_first r level d a u (operands_of c.pop-5.new.self) can.store
     (subst (λ os. IsFitting (staged_by os can.store)) ops
     (stages_takes _ _ (native_fits _ _ _ SetAdsr c.requires.is can))))
-
-pub returns-in-Ok : goal.returns-in-Ok
-unfolding shown
-returns-in-Ok c = record {
-  carries = carried_in c.put.result c.args.at.now c.args.world.now c.set_stages.new.self
-      c.args.shred.now c.put.new.shred (grind (arith, common_steps)) (grind (arith, common_steps))
-      c.in-Ok.ensures.ran (λ code acts store stands.
-      let made = c.in-Ok.ensures.staged store stands in
-      follows_same _ made.store made.stands c.put.result _ _ _ _ (grind (arith, common_steps, stages_called)));
-}
-
-pub returns-in-Err : goal.returns-in-Err
-unfolding shown
-returns-in-Err c = record {
-  carries = λ code acts. record {
-    follows = λ store stands.
-        let null = c.in-Err.ensures.null store stands in
-        record {
-          store = store;
-          stands = subst (λ world. StandsFor world store) (sym c.in-Err.ensures.same) stands;
-          so = search (rules, stages_called);
-        };
-    same = grind (arith, common_steps);
-    stays = grind (arith, common_steps);
-    ran = c.in-Err.ensures.ran;
-  };
-}

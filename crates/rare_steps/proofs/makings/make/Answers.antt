@@ -15,14 +15,3 @@ make-requires c =
       stands = can.stands;
       so = new_fits _ _ _ c.args.class c.requires.is can;
     }
-
-pub returns-in-Ok : goal.returns-in-Ok
-unfolding shown
-returns-in-Ok c = record {
-  carries = λ acts. carried c.put.result c.args.code.now c.args.at.now
-      (scene c.args.shred.now c.args.world.now acts) (scene c.put.new.shred c.make.new.self acts)
-      (grind (arith, common_steps)) (grind (arith, common_steps)) c.in-Ok.ensures.ran
-      (λ store stands.
-      let made = c.in-Ok.ensures.made store stands in
-      follows_same _ made.store made.stands c.put.result _ _ _ _ (grind (arith, common_steps)));
-}

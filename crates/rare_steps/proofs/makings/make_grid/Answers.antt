@@ -35,30 +35,3 @@ int-rows-requires c =
     (one_taken (λ n. (grid_made e n m can.store).end) _ _ n (taken_meant _ _ _ c.pop-2.ensures)
     (first_of_two (λ n m. (grid_made e n m can.store).end) _ _ m (taken_meant _ _ _ c.pop.ensures)
     (grid_fits _ _ _ e c.requires.is can)))).0
-
-pub returns-in-Ok : goal.returns-in-Ok
-unfolding shown
-returns-in-Ok c = record {
-  carries = carried_in c.put.result c.args.at.now c.args.world.now c.make_grid.new.self
-      c.args.shred.now c.put.new.shred (grind (arith, common_steps)) (grind (arith, common_steps))
-      c.in-Ok.ensures.ran (λ code acts store stands.
-      let made = c.in-Ok.ensures.made store stands in
-      follows_same _ made.store made.stands c.put.result _ _ _ _ (grind (arith, common_steps)));
-}
-
-pub returns-in-Err-Trap : goal.returns-in-Err-Trap
-unfolding shown
-returns-in-Err-Trap c = record {
-  carries = λ code acts. record {
-    follows = λ store stands.
-        let rows = AnInt (to_z w64 (of_z w64 c.int-rows.result)) in
-        let columns = AnInt (to_z w64 (of_z w64 c.int-columns.result)) in
-        let left = subst (λ end. OnTrap end (λ trap. DoesPartly c.args.world.now
-        (grid_made c.args.elem rows columns) (Fails trap) c.make_grid.new.self))
-        c.in-Err-Trap.field-0-is c.in-Err-Trap.ensures.end store stands in
-        record { store = left.store; stands = left.stands; so = grind (arith, common_steps) };
-    same = grind (arith, common_steps);
-    stays = grind (arith, common_steps);
-    ran = c.in-Err-Trap.ensures.ran;
-  };
-}

@@ -19,13 +19,3 @@ int-size-requires c =
     row_int e n can.store
     (one_taken (λ n. row_made e n can.store) _ _ n (taken_meant _ _ _ c.pop.ensures)
     (row_fits _ _ _ e c.requires.is can))
-
-pub returns-in-Ok : goal.returns-in-Ok
-unfolding shown
-returns-in-Ok c = record {
-  carries = carried_in c.put.result c.args.at.now c.args.world.now c.make_row.new.self
-      c.args.shred.now c.put.new.shred (grind (arith, common_steps)) (grind (arith, common_steps))
-      c.in-Ok.ensures.ran (λ code acts store stands.
-      let made = c.in-Ok.ensures.made store stands in
-      follows_same _ made.store made.stands c.put.result _ _ _ _ (grind (arith, common_steps)));
-}

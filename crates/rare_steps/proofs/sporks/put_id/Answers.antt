@@ -1,10 +1,12 @@
-use Rattle.std.proofs.Common.{arith}
+use Rattle.std.proofs.Common.{refl, arith}
 use Rattle.std.proofs.lemmas.Grind.{common_steps}
 use Rattle.ck_store.specs.Natives.{native}
 use Rattle.machine_world.specs.Shown.{shown}
 use Rattle.machine_world.proofs.Follows.{follows_same}
+use Rattle.machine_world.proofs.Referred.{in_taken, plain_hits}
 use Rattle.rare_steps.proofs.Arguments.{wrapped_number}
-use Rattle.rare_steps.proofs.Carried.{carried_alone}
+use Rattle.rare_steps.proofs.Carried.{carried_alone, alone_balances}
+use Rattle.rare_steps.proofs.Plains.{given_fits, failed_fits, shred_plain}
 use Rattle.rare_steps.proofs.sporks.put_id.Goals as goal
 
 pub returns-in-Ok : goal.returns-in-Ok
@@ -13,5 +15,29 @@ returns-in-Ok c = record {
   carries = carried_alone c.put.result c.args.at.now c.args.shred.now c.put.new.shred
       (grind (arith, common_steps)) (grind (arith, common_steps)) (λ world code acts store stands.
       follows_same world store stands c.put.result _ _ _ _
-      (grind (arith, common_steps, wrapped_number)));
+      (grind (arith, common_steps, wrapped_number)))
+      (alone_balances c.put.result _ c.pop.new.self _ _ c.put.ensures.then c.put.ensures.put (λ r.
+      omega (
+        arith,
+        in_taken r _ _ _ c.pop.ensures,
+        plain_hits r c.pop.result (shred_plain _ (given_fits _ _ c.in-Ok.ensures)),
+      )));
+}
+
+pub returns : goal.returns
+unfolding native shown
+returns c = record {
+  carries = λ world code acts. record {
+    follows = λ store stands.
+        record { store = store; stands = stands; so = grind (arith, common_steps) };
+    balances = λ r.
+        omega (
+          arith,
+          in_taken r _ _ _ c.pop.ensures,
+          plain_hits r c.pop.result (shred_plain _ (failed_fits _ _ c.in-Err.ensures)),
+        );
+    same = grind (arith, common_steps);
+    stays = grind (arith, common_steps);
+    ran = refl;
+  };
 }
