@@ -39,15 +39,6 @@ pub when_put : (result : Result Then Memory) (A : Type 0) (P : Then → Type 0)
 when_put (Ok then) A P goes put on = subst P (sym goes) (on put)
 when_put (Err memory) A P goes put on = tt
 
-pub alone_balances : (result : Result Then Memory) (old mid new : Standing)
-    (v : Value) → IfOk result (λ then. then ≡ GoesOn)
-    → OnOk result (new ≡ next_standing mid mid.top.locals (v ∷ mid.top.operands))
-    → ((r : Ref) → in_shred r old ≡ in_shred r mid + hits r v)
-    → IfOk result (λ then. (r : Ref) → in_shred r old ≡ in_shred r new + in_then r then)
-alone_balances (Ok then) old mid new v goes put counts = λ r.
-    omega (arith, counts r, ap (in_shred r) put, ap (in_then r) goes)
-alone_balances (Err memory) old mid new v goes put counts = tt
-
 pub carried : (result : Result Then Memory) (code : CodeParts) (step : Step) (old new : Scene)
     → OnOk result (IsSame old.shred new.shred)
     → IfOk result (λ then. Stays then old.shred new.shred) → new.world.ran ≡ old.world.ran

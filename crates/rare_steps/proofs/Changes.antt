@@ -13,10 +13,13 @@ use Rattle.machine_world.specs.Steps.{of_two, updated}
 use Rattle.machine_world.proofs.Changed.{of_three}
 use Rattle.rare_steps.specs.Updates.{Updated, with_value, made_of}
 
+abbrev both : Datum → Store → Try Updated
+both w store = Gives (record { value = w; store = store })
+
 -- where the store can be made, so can both
 module _ (put : Datum → Try Store) where
   put_so : (w : Datum) (t : Try Store) → IsFitting t
-      → IsFitting (and_then t (λ store. Gives (record { value = w; store = store } : Updated)))
+      → IsFitting (and_then t (both w))
   put_so w (Gives store) fits = tt
   put_so w (Fails trap) fits = tt
   put_so w Misfit fits = absurd fits
@@ -36,7 +39,7 @@ module _ (put : Datum → Try Store) where
 module _ (put : Datum → Try Store) (place : Place) (s : State) (go : Updated → Effect) where
   stored : (w : Datum) (t : Try Store)
       → tried t place s (λ store. go (record { value = w; store = store }))
-      ≡ tried (and_then t (λ store. Gives (record { value = w; store = store }))) place s go
+      ≡ tried (and_then t (both w)) place s go
   stored w (Gives store) = refl
   stored w (Fails trap) = refl
   stored w Misfit = refl

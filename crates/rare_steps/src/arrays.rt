@@ -69,7 +69,7 @@ fn change_item(
     ensures plain { IfOk result (λ v. (r : Reference) → hits r v ≡ 0) }
     ensures trap { IfErr result (λ end. OnTrap end (Refuses world.old (λ store.
         item_made store (ARef array.serial) (meant index.now) operator (meant operand.now)))) }
-    ensures same { IfErr result (λ end. OnTrap end (Recounts world.old world.new)) }
+    ensures same { IfErr result (λ end. OnTrap end (λ trap. Recounts world.old world.new)) }
     ensures holds { SameHolds world.old world.new }
     ensures ran { world.new.ran ≡ world.old.ran }
 {

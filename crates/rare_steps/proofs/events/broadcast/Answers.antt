@@ -1,4 +1,4 @@
-use Rattle.std.proofs.Common.{refl, ap, arith}
+use Rattle.std.proofs.Common.{refl, ap, ◌∙◌, arith}
 use Rattle.std.proofs.lemmas.Grind.{common_steps}
 use Rattle.ck_store.specs.Natives.{native}
 use Rattle.counted_heap.specs.Places.{hits}
@@ -24,8 +24,7 @@ returns-in-Ok c = record {
               ap (in_shred r) put,
               in_taken r _ _ _ c.pop.ensures,
               ap (hits r) c.in-Ok.ensures.same,
-              ap (in_acts r) c.in_ok-push.ensures,
-              in_acts_push r c.args.acts.now _,
+              ap (in_acts r) c.in_ok-push-in-Ok.ensures ∙ in_acts_push r _ _,
             );
         same = grind (arith, common_steps);
         stays = grind (arith, common_steps);

@@ -11,15 +11,13 @@ use Rattle.rare_steps.proofs.operands.put_fix_units.Goals as goal
 pub returns-clause-holds : goal.returns-clause-holds
 returns-clause-holds c =
     let count = c.pop-count.result in
-    let n = c.args.numerator in
-    let d = c.args.denominator in
     let gives = c.fix_units.ensures in
     on_ok c.put.result _ _ (λ put r.
     omega (
       arith,
       ap (in_shred r) put,
       in_taken r _ _ _ c.pop-count.ensures,
-      plain_hits r count (units_of_plain n d (meant count) (given_fits _ _ gives)),
+      plain_hits r count (units_of_plain _ _ (meant count) (given_fits _ _ gives)),
       plain_hits r c.fix_units.result
-          (given_plain _ _ gives (units_are_plain n d (meant count))),
+          (given_plain _ _ gives (units_are_plain _ _ (meant count))),
     )) c.put.ensures.put

@@ -1,11 +1,13 @@
-use Rattle.std.proofs.Common.{refl, arith}
+use Rattle.std.proofs.Common.{◌≡◌, ◌+◌, refl, ap, arith}
+use Rattle.ck_values.specs.declared.reference.Ref.{Ref}
 use Rattle.std.proofs.lemmas.Grind.{common_steps}
 use Rattle.ck_store.specs.Natives.{native}
+use Rattle.machine_world.specs.Held.{in_shred, in_then}
 use Rattle.machine_world.specs.Shown.{shown}
 use Rattle.machine_world.proofs.Follows.{follows_same}
 use Rattle.machine_world.proofs.Referred.{in_taken, plain_hits}
 use Rattle.rare_steps.proofs.Arguments.{wrapped_number}
-use Rattle.rare_steps.proofs.Carried.{carried_alone, alone_balances}
+use Rattle.rare_steps.proofs.Carried.{carried_alone, when_put}
 use Rattle.rare_steps.proofs.Plains.{given_fits, failed_fits, shred_plain}
 use Rattle.rare_steps.proofs.sporks.put_id.Goals as goal
 
@@ -16,9 +18,12 @@ returns-in-Ok c = record {
       (grind (arith, common_steps)) (grind (arith, common_steps)) (λ world code acts store stands.
       follows_same world store stands c.put.result _ _ _ _
       (grind (arith, common_steps, wrapped_number)))
-      (alone_balances c.put.result _ c.pop.new.self _ _ c.put.ensures.then c.put.ensures.put (λ r.
+      (when_put c.put.result _ (λ then. (r : Ref) →
+      in_shred r c.args.shred.now ≡ in_shred r c.put.new.shred + in_then r then)
+      c.put.ensures.then c.put.ensures.put (λ put r.
       omega (
         arith,
+        ap (in_shred r) put,
         in_taken r _ _ _ c.pop.ensures,
         plain_hits r c.pop.result (shred_plain _ (given_fits _ _ c.in-Ok.ensures)),
       )));

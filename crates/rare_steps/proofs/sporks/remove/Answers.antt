@@ -1,4 +1,4 @@
-use Rattle.std.proofs.Common.{refl, ap, arith}
+use Rattle.std.proofs.Common.{refl, ap, ◌∙◌, arith}
 use Rattle.std.proofs.lemmas.Grind.{common_steps}
 use Rattle.ck_store.specs.Natives.{native}
 use Rattle.machine_world.specs.Held.{in_shred, in_acts}
@@ -24,8 +24,7 @@ returns c = record {
               ap (in_shred r) put,
               in_taken r _ _ _ c.pop.ensures,
               int_hits r c.pop.result _ c.int-number.ensures,
-              ap (in_acts r) c.in_ok-push.ensures,
-              in_acts_push r c.args.acts.now _,
+              ap (in_acts r) c.in_ok-push.ensures ∙ in_acts_push r _ _,
             );
         same = grind (arith, common_steps);
         stays = grind (arith, common_steps);
