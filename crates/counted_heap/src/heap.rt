@@ -193,11 +193,12 @@ impl CountedHeap {
         }
     }
 
-    // One hold less of what a value refers to.
-    fn let_go(&mut self, v: &Value)
+    /// One hold less of what a value refers to. It takes no memory.
+    pub fn let_go(&mut self, v: &Value)
         requires { IsAmong self.old v.now }
         ensures holds { Leaves self.old self.new v.now }
         ensures objects { SameObjects self.old self.new }
+        ensures stands { StandsOn self.old self.new (λ s. s) }
     {
         if let Value::Ref(at) = v {
             if at.serial != 0 {
@@ -206,11 +207,12 @@ impl CountedHeap {
         }
     }
 
-    // One hold less of what each of the values refers to.
-    fn let_all_go(&mut self, vs: &[Value])
+    /// One hold less of what each of the values refers to. It takes no memory.
+    pub fn let_all_go(&mut self, vs: &[Value])
         requires { AreAmong self.old vs.now }
         ensures holds { (r : Ref) → outside self.new r + places r vs.now ≡ outside self.old r }
         ensures objects { SameObjects self.old self.new }
+        ensures stands { StandsOn self.old self.new (λ s. s) }
     {
         for v in vs {
             self.let_go(v);

@@ -4,7 +4,7 @@
 //! that the plain heap would have: each live object has its body, under its number. An object's
 //! count is the number of fields and items of live objects that refer to it, and of holds from
 //! outside; each call says which holds enter and leave. An object whose count falls to 0 is
-//! chained, and goes when it is reaped. The machine doesn't use it yet.
+//! chained, and goes when it is reaped.
 #![tactic(auto)]
 
 mod cell;
