@@ -96,10 +96,11 @@ impl CountedHeap {
         }
     }
 
-    /// The body of a live object.
+    /// The body of a live object. What its fields or items refer to has a count, so it can be held.
     pub fn body(&self, at: Ref) -> &Body
         requires { IsSome (object self.now at) }
-        ensures { object self.now at ≡ Some result.now }
+        ensures found { object self.now at ≡ Some result.now }
+        ensures counted { (r : Ref) → places r (values_of result.now) ≤ count self.now r }
     {
         &self.cells.get(at.slot).unwrap().body
     }
