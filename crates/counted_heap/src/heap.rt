@@ -1,5 +1,5 @@
 ghost use Rattle.std.specs.Prelude.{◌≡◌, ◌<◌, ◌≤◌, ◌+◌, ◌-◌, ◌^◌, ◌↔◌, [], ◌∷◌, ◌++◌, length, Some};
-ghost use Rattle.std.specs.Prelude.{List, slice_get, slice_set, IsSome, IsNone, IsErr, IsSomeAnd};
+ghost use Rattle.std.specs.Prelude.{List, slice_get, slice_set, IsSome, IsNone, IsErr, IsSomeAnd, IsTrue};
 ghost use Rattle.std.specs.Prelude.{IfSome, IfNone, IfOk, IfErr, OnOk, OnErr};
 ghost use Rattle.ck_base.specs.declared.limits.TheConstants.{MAX_OBJECTS};
 ghost use Rattle.ck_values.specs.declared.reference.Ref.{Ref};
@@ -253,6 +253,13 @@ impl CountedHeap {
         let body = self.take()?;
         self.let_all_go(body.values());
         Some(body)
+    }
+
+    /// Whether as many objects were made as may be.
+    pub fn is_full(&self) -> bool
+        ensures { IsTrue result ↔ (MAX_OBJECTS < self.now.next) }
+    {
+        self.next > MAX_OBJECTS
     }
 
     /// How many objects are live: those that were made and haven't been reaped.
