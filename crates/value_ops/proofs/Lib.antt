@@ -1,8 +1,7 @@
 pub mod Ones
 pub mod Wraps
 pub mod Pairs
-pub mod Items
-pub mod Keeps
 pub mod Wants
-pub mod Changes
-pub mod Makes
+pub mod Looks
+pub mod Puts
+pub mod Builds

@@ -1,5 +1,5 @@
 -- The objects of a heap, as a store has them.
-use Rattle.std.specs.Prelude.{◌≡◌, ◌⊎◌, ℕ, ◌+◌, ◌≤◌, Bool, List, map, Some, IsSomeAnd}
+use Rattle.std.specs.Prelude.{◌≡◌, ◌⊎◌, ℕ, ◌+◌, ◌≤◌, Bool, true, List, map, Some, IsSomeAnd}
 use Rattle.ck_values.specs.declared.kind.Elem.{Elem}
 use Rattle.ck_values.specs.declared.reference.Ref.{Ref}
 use Rattle.ck_values.specs.declared.trap.Trap.{Trap}

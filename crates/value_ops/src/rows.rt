@@ -1,27 +1,33 @@
 //! How arrays are made.
-ghost use Rattle.std.specs.Prelude.{◌≡◌, replicate, true, false, IsSomeAnd};
+ghost use Rattle.std.specs.Prelude.{◌≡◌, ◌+◌, replicate, true, false, IsSomeAnd};
 ghost use Rattle.std.specs.Prelude.{OnOk, OnErr, IfOk, IfErr};
-ghost use Rattle.ck_values.specs.Datum.{meant, all_meant, default_of, AnInt, ARef};
-ghost use Rattle.ck_store.specs.Store.{Store, Gives, Fails};
+ghost use Rattle.ck_values.specs.declared.reference.Ref.{Ref};
+ghost use Rattle.ck_values.specs.declared.value.Value.TheVariants as value;
+ghost use Rattle.ck_values.specs.Datum.{all_meant, default_of, meant, AnInt, ARef};
+ghost use Rattle.ck_store.specs.Store.{Gives, Fails};
 ghost use Rattle.ck_store.specs.Arrays.{size_of, row_made, array_made};
 ghost use Rattle.ck_store.specs.Arrays.{sizes_of, grid_made, row_added, rows_added};
 ghost use Rattle.object_heap.specs.declared.body.Body.TheVariants.{Array};
-ghost use Rattle.object_heap.specs.Objects.{object, IsArray, MakesObject};
-ghost use Rattle.value_ops.specs.Ends.{IsGiven, IsEnd, OnTrap, OnWant, IsPartEnd};
-ghost use Rattle.value_ops.specs.Heaps.{with_heap, KeepsUnits};
+ghost use Rattle.object_heap.specs.Objects.{IsArray};
+ghost use Rattle.counted_heap.specs.Places.{hits, places};
+ghost use Rattle.counted_heap.specs.Counted.{object, outside, AreAmong, Enters, SameHolds, Makes};
+ghost use Rattle.value_ops.specs.Ends.{IsGiven, IsEnd, OnTrap, OnWant};
+ghost use Rattle.value_ops.specs.Heaps.{Refuses, Ends, Does, DoesPartly, KeepsObjects, KeepsUnits};
 
 use crate::end::OpEnd;
 use ck_base::limits::MAX_ITEMS;
 use ck_base::{List, Text};
 use ck_values::{Elem, Ref, Trap, Value};
+use counted_heap::CountedHeap;
 use fixed_point::{Fix, Memory};
-use object_heap::{Body, Heap, MakeEnd};
+use object_heap::{Body, MakeEnd};
 use std::alloc::Global;
 
 /// What an item of this type begins with.
 #[inline(always)] // a row has up to a million
 fn default_of(alloc: Global, elem: Elem) -> Result<Value, Memory>
-    ensures { IfOk result (λ v. meant v ≡ default_of elem) }
+    ensures first { IfOk result (λ v. meant v ≡ default_of elem) }
+    ensures null { IfOk result (λ v. (r : Ref) → hits r v ≡ 0) }
 {
     const NULL: Ref = Ref { serial: 0, slot: 0 };
     Ok(match elem {
@@ -37,7 +43,8 @@ fn default_of(alloc: Global, elem: Elem) -> Result<Value, Memory>
 
 /// So many items, as they begin.
 fn defaults(alloc: Global, elem: Elem, n: usize) -> Result<List<Value>, Memory>
-    ensures { IfOk result (λ items. all_meant items ≡ replicate n (default_of elem)) }
+    ensures first { IfOk result (λ items. all_meant items ≡ replicate n (default_of elem)) }
+    ensures null { IfOk result (λ items. (r : Ref) → places r items ≡ 0) }
 {
     let mut items = Vec::with_capacity(alloc, n)?;
     for _ in 0..n {
@@ -46,41 +53,71 @@ fn defaults(alloc: Global, elem: Elem, n: usize) -> Result<List<Value>, Memory>
     Ok(List::from_vec(items))
 }
 
-/// Makes an array of these items, which are arrays of `elem` if `two`. `ObjectLimit` comes exactly
-/// where 2^48 objects were made.
-#[tactic(auto, using(crate::proofs::Makes::makes))]
-pub fn array(heap: &mut Heap, elem: Elem, two: bool, items: List<Value>) -> Result<Ref, OpEnd>
-    requires first { heap.old.first ≡ 1 }
-    ensures object { IfOk result (λ at.
-        MakesObject heap.old (Array elem two items) at heap.new) }
-    ensures made { (store : Store) → IfOk result (λ at.
-        array_made elem two (all_meant items) (with_heap store heap.old)
-        ≡ Gives (record { reference = ARef at.serial; store = with_heap store heap.new })) }
-    ensures end { (store : Store) → IfErr result (λ end.
-        IsEnd true end (array_made elem two (all_meant items) (with_heap store heap.old))) }
+/// Makes an array of these items, which are arrays of `elem` if `two`, and holds it; the array holds
+/// what the items refer to then. `ObjectLimit` comes exactly where 2^48 objects were made. Where none
+/// is made, what the items refer to is let go.
+#[tactic(auto, using(crate::proofs::Builds::builds))]
+pub fn array(
+    heap: &mut CountedHeap,
+    elem: Elem,
+    two: bool,
+    items: List<Value>,
+) -> Result<Ref, OpEnd>
+    requires among { AreAmong heap.old items }
+    ensures object { IfOk result (λ at. Makes heap.old heap.new at (Array elem two items)) }
+    ensures made { IfOk result (λ at. Does heap.old
+        (array_made elem two (all_meant items))
+        (λ after. record { reference = ARef at.serial; store = after }) heap.new) }
+    ensures end { IfErr result (Ends heap.old (array_made elem two (all_meant items))) }
+    ensures let_go { OnErr result
+        ((r : Ref) → outside heap.new r + places r items ≡ outside heap.old r) }
+    ensures kept { OnErr result (KeepsObjects heap.old heap.new) }
+    ensures units { KeepsUnits heap.old heap.new }
+{
+    match make(heap, elem, two, items) {
+        Ok(at) => Ok(at),
+        Err((end, body)) => {
+            heap.let_all_go(body.values());
+            Err(end)
+        }
+    }
+}
+
+/// Makes an array of these items, or hands it back; nothing has changed then.
+#[tactic(auto, using(crate::proofs::Builds::builds))]
+fn make(
+    heap: &mut CountedHeap,
+    elem: Elem,
+    two: bool,
+    items: List<Value>,
+) -> Result<Ref, (OpEnd, Body)>
+    requires among { AreAmong heap.old items }
+    ensures object { IfOk result (λ at. Makes heap.old heap.new at (Array elem two items)) }
+    ensures made { IfOk result (λ at. Does heap.old
+        (array_made elem two (all_meant items))
+        (λ after. record { reference = ARef at.serial; store = after }) heap.new) }
+    ensures end { IfErr result (λ e.
+        Ends heap.old (array_made elem two (all_meant items)) e.0) }
+    ensures back { IfErr result (λ e. e.1 ≡ Array elem two items) }
     ensures same { OnErr result (heap.new ≡ heap.old) }
-    ensures first { heap.new.first ≡ heap.old.first }
     ensures units { KeepsUnits heap.old heap.new }
 {
     match heap.make(Body::Array { elem, two, items }) {
         Ok(at) => Ok(at),
-        Err(MakeEnd::Limit(_)) => Err(OpEnd::Trap(Trap::ObjectLimit)),
-        Err(MakeEnd::Memory(back)) => Err(OpEnd::Memory(back.memory)),
+        Err(MakeEnd::Limit(body)) => Err((OpEnd::Trap(Trap::ObjectLimit), body)),
+        Err(MakeEnd::Memory(back)) => Err((OpEnd::Memory(back.memory), back.value)),
     }
 }
 
-/// Makes an array of `n` items, as they begin. `ArrayLimit` comes exactly where `n` is below 0 or
-/// above 1,048,576, and `ObjectLimit` exactly where it is not, and 2^48 objects were made.
-#[tactic(auto, using(crate::proofs::Makes::makes))]
-pub fn row(alloc: Global, heap: &mut Heap, elem: Elem, n: i64) -> Result<Ref, OpEnd>
-    requires first { heap.old.first ≡ 1 }
-    ensures made { (store : Store) → IfOk result (λ at.
-        row_made elem (AnInt n) (with_heap store heap.old)
-        ≡ Gives (record { reference = ARef at.serial; store = with_heap store heap.new })) }
-    ensures end { (store : Store) → IfErr result (λ end.
-        IsEnd true end (row_made elem (AnInt n) (with_heap store heap.old))) }
+/// Makes an array of `n` items, as they begin, and holds it. `ArrayLimit` comes exactly where `n` is
+/// below 0 or above 1,048,576, and `ObjectLimit` exactly where it is not, and 2^48 objects were made.
+#[tactic(auto, using(crate::proofs::Builds::builds))]
+pub fn row(alloc: Global, heap: &mut CountedHeap, elem: Elem, n: i64) -> Result<Ref, OpEnd>
+    ensures made { IfOk result (λ at. Does heap.old (row_made elem (AnInt n))
+        (λ after. record { reference = ARef at.serial; store = after }) heap.new) }
+    ensures holds { IfOk result (λ at. Enters heap.old heap.new (value.Ref at)) }
+    ensures end { IfErr result (Ends heap.old (row_made elem (AnInt n))) }
     ensures same { OnErr result (heap.new ≡ heap.old) }
-    ensures first { heap.new.first ≡ heap.old.first }
     ensures units { KeepsUnits heap.old heap.new }
 {
     let n = size_of(n)?;
@@ -88,7 +125,10 @@ pub fn row(alloc: Global, heap: &mut Heap, elem: Elem, n: i64) -> Result<Ref, Op
         return Err(OpEnd::Trap(Trap::ObjectLimit));
     }
     let items = defaults(alloc, elem, n)?;
-    array(heap, elem, false, items)
+    match make(heap, elem, false, items) {
+        Ok(at) => Ok(at),
+        Err((end, _)) => Err(end),
+    }
 }
 
 /// The size of an array.
@@ -118,49 +158,52 @@ fn sizes(n: i64, m: i64) -> Result<(usize, usize), OpEnd>
     Ok((rows, columns))
 }
 
-/// Makes an array of `n` arrays of `m` items, as they begin; the rows are made one after another.
-/// `ArrayLimit` comes exactly where `n` or `m` is below 0, or `n` or their product is above
-/// 1,048,576, and `Memory` only where they aren't. `ObjectLimit` comes where an object was wanted
-/// after 2^48; the rows that were made before it stay.
-#[tactic(auto, using(crate::proofs::Makes::makes))]
-pub fn grid(alloc: Global, heap: &mut Heap, elem: Elem, n: i64, m: i64) -> Result<Ref, OpEnd>
-    requires first { heap.old.first ≡ 1 }
-    ensures made { (store : Store) → IfOk result (λ at.
-        grid_made elem (AnInt n) (AnInt m) (with_heap store heap.old)
-        ≡ record { store = with_heap store heap.new; end = Gives (ARef at.serial) }) }
-    ensures end { (store : Store) → IfErr result (λ end.
-        IsPartEnd end (grid_made elem (AnInt n) (AnInt m) (with_heap store heap.old))
-        (with_heap store heap.new)) }
+/// Makes an array of `n` arrays of `m` items, as they begin, and holds it; the rows are made one
+/// after another, and it holds them. `ArrayLimit` comes exactly where `n` or `m` is below 0, or `n` or
+/// their product is above 1,048,576, and `Memory` only where they aren't. `ObjectLimit` comes where an
+/// object was wanted after 2^48; what was made before it was made, and is let go.
+#[tactic(auto, using(crate::proofs::Builds::builds))]
+pub fn grid(alloc: Global, heap: &mut CountedHeap, elem: Elem, n: i64, m: i64) -> Result<Ref, OpEnd>
+    ensures made { IfOk result (λ at. DoesPartly heap.old
+        (grid_made elem (AnInt n) (AnInt m)) (Gives (ARef at.serial)) heap.new) }
+    ensures holds { IfOk result (λ at. Enters heap.old heap.new (value.Ref at)) }
+    ensures end { IfErr result (λ end. OnTrap end (λ trap. DoesPartly heap.old
+        (grid_made elem (AnInt n) (AnInt m)) (Fails trap) heap.new)) }
+    ensures let_go { OnErr result (SameHolds heap.old heap.new) }
     ensures sizes { IfErr result (λ end. OnWant end (IsGiven (sizes_of (AnInt n) (AnInt m)))) }
-    ensures first { heap.new.first ≡ heap.old.first }
     ensures units { KeepsUnits heap.old heap.new }
 {
     let (rows, columns) = sizes(n, m)?;
     let items = List::from_vec(Vec::with_capacity(alloc, rows)?);
-    let at = array(heap, elem, true, items)?;
-    add_rows(alloc, heap, elem, rows, columns, at)?;
-    Ok(at)
+    let at = match make(heap, elem, true, items) {
+        Ok(at) => at,
+        Err((end, _)) => return Err(end),
+    };
+    match add_rows(alloc, heap, elem, rows, columns, at) {
+        Ok(()) => Ok(at),
+        Err(end) => {
+            heap.release(at);
+            Err(end)
+        }
+    }
 }
 
-/// Puts so many rows more at the end of an array of arrays.
-#[tactic(auto, using(crate::proofs::Makes::makes))]
+/// Puts so many rows more at the end of an array of arrays, which holds them.
+#[tactic(auto, using(crate::proofs::Builds::builds))]
 fn add_rows(
     alloc: Global,
-    heap: &mut Heap,
+    heap: &mut CountedHeap,
     elem: Elem,
     rows: usize,
     columns: usize,
     grid: Ref,
 ) -> Result<(), OpEnd>
-    requires first { heap.old.first ≡ 1 }
     requires array { IsSomeAnd (object heap.old grid) IsArray }
-    ensures added { (store : Store) → OnOk result
-        (rows_added rows elem columns (ARef grid.serial) (with_heap store heap.old)
-        ≡ record { store = with_heap store heap.new; end = Gives (ARef grid.serial) }) }
-    ensures end { (store : Store) → IfErr result (λ end.
-        IsPartEnd end (rows_added rows elem columns (ARef grid.serial) (with_heap store heap.old))
-        (with_heap store heap.new)) }
-    ensures first { heap.new.first ≡ heap.old.first }
+    ensures added { OnOk result (DoesPartly heap.old
+        (rows_added rows elem columns (ARef grid.serial)) (Gives (ARef grid.serial)) heap.new) }
+    ensures end { IfErr result (λ end. OnTrap end (λ trap. DoesPartly heap.old
+        (rows_added rows elem columns (ARef grid.serial)) (Fails trap) heap.new)) }
+    ensures holds { SameHolds heap.old heap.new }
     ensures units { KeepsUnits heap.old heap.new }
 {
     for _ in 0..rows {
@@ -169,31 +212,35 @@ fn add_rows(
     Ok(())
 }
 
-/// Makes one row more, and puts it at the end of an array of arrays.
-#[tactic(auto, using(crate::proofs::Makes::makes))]
+/// Makes one row more, and puts it at the end of an array of arrays, which holds it.
+#[tactic(auto, using(crate::proofs::Builds::builds))]
 fn add_row(
     alloc: Global,
-    heap: &mut Heap,
+    heap: &mut CountedHeap,
     elem: Elem,
     columns: usize,
     grid: Ref,
 ) -> Result<(), OpEnd>
-    requires first { heap.old.first ≡ 1 }
     requires array { IsSomeAnd (object heap.old grid) IsArray }
-    ensures added { (store : Store) → OnOk result
-        (row_added elem columns (ARef grid.serial) (with_heap store heap.old)
-        ≡ Gives (with_heap store heap.new)) }
-    ensures end { (store : Store) → IfErr result (λ end. OnTrap end (λ trap.
-        row_added elem columns (ARef grid.serial) (with_heap store heap.old) ≡ Fails trap)) }
+    ensures added { OnOk result (Does heap.old
+        (row_added elem columns (ARef grid.serial)) (λ after. after) heap.new) }
+    ensures end { IfErr result (λ end. OnTrap end
+        (Refuses heap.old (row_added elem columns (ARef grid.serial)))) }
     ensures same { IfErr result (λ end. OnTrap end (λ trap. heap.new ≡ heap.old)) }
     ensures array { OnOk result (IsSomeAnd (object heap.new grid) IsArray) }
-    ensures first { heap.new.first ≡ heap.old.first }
+    ensures holds { SameHolds heap.old heap.new }
     ensures units { KeepsUnits heap.old heap.new }
 {
     let items = defaults(alloc, elem, columns)?;
-    let row = array(heap, elem, false, items)?;
+    let row = match make(heap, elem, false, items) {
+        Ok(row) => row,
+        Err((end, _)) => return Err(end),
+    };
     match heap.grow(grid, Value::Ref(row)) {
         Ok(()) => Ok(()),
-        Err(back) => Err(OpEnd::Memory(back.memory)),
+        Err(back) => {
+            heap.release(row);
+            Err(OpEnd::Memory(back.memory))
+        }
     }
 }

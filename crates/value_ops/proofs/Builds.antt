@@ -1,0 +1,4 @@
+-- x
+use Rattle.std.proofs.Common.{refl}
+
+pub ruleset builds = (refl)
