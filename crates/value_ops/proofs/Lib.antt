@@ -2,6 +2,7 @@ pub mod Ones
 pub mod Wraps
 pub mod Pairs
 pub mod Wants
-pub mod Looks
+pub mod Has
+pub mod Items
 pub mod Puts
 pub mod Builds

@@ -49,7 +49,7 @@ pub(crate) fn place_of(index: i64, n: usize) -> Option<usize>
 /// The item of an array at this index, from 0; it is not copied, and what it refers to can be held.
 /// `NullPointer` comes exactly where the reference is null, and `ArrayOutOfBounds` exactly where the
 /// index is below 0 or not below the size.
-#[tactic(auto, using(crate::proofs::Looks::looks))]
+#[tactic(auto, using(crate::proofs::Items::items))]
 pub fn item(heap: &CountedHeap, at: Ref, index: i64) -> Result<&Value, Trap>
     requires array { RefersToArray heap.now at }
     ensures found { IfOk result (λ v. Answers heap.now
@@ -66,7 +66,7 @@ pub fn item(heap: &CountedHeap, at: Ref, index: i64) -> Result<&Value, Trap>
 }
 
 /// How many items an array has. `NullPointer` comes exactly where the reference is null.
-#[tactic(auto, using(crate::proofs::Looks::looks))]
+#[tactic(auto, using(crate::proofs::Items::items))]
 pub fn size(heap: &CountedHeap, at: Ref) -> Result<i64, Trap>
     requires array { RefersToArray heap.now at }
     ensures found { IfOk result (λ n.
@@ -79,7 +79,7 @@ pub fn size(heap: &CountedHeap, at: Ref) -> Result<i64, Trap>
 
 /// Whether an array has an item at this index, from 0. `NullPointer` comes exactly where the
 /// reference is null.
-#[tactic(auto, using(crate::proofs::Looks::looks))]
+#[tactic(auto, using(crate::proofs::Items::items))]
 pub fn has_item(heap: &CountedHeap, at: Ref, index: i64) -> Result<bool, Trap>
     requires array { RefersToArray heap.now at }
     ensures found { IfOk result (Answers heap.now
