@@ -4,5 +4,5 @@ pub mod Pairs
 pub mod Wants
 pub mod Has
 pub mod Items
-pub mod Puts
+pub mod Changes
 pub mod Builds

@@ -18,7 +18,7 @@ use counted_heap::CountedHeap;
 /// back, with its hold. `NullPointer` comes exactly where the reference is null, and
 /// `ArrayOutOfBounds` exactly where the index is below 0 or not below the size; the value is handed
 /// back then.
-#[tactic(auto, using(crate::proofs::Puts::puts))]
+#[tactic(auto, using(crate::proofs::Changes::changes))]
 pub fn set_item(
     heap: &mut CountedHeap,
     at: Ref,
@@ -52,7 +52,7 @@ pub fn set_item(
 /// Puts a value at the end of an array, which holds what it refers to then. `NullPointer` comes
 /// exactly where the reference is null, and `ArrayLimit` exactly where the array has 1,048,576
 /// items; the value is handed back then, as it is for want of memory.
-#[tactic(auto, using(crate::proofs::Puts::puts))]
+#[tactic(auto, using(crate::proofs::Changes::changes))]
 pub fn append(heap: &mut CountedHeap, at: Ref, v: Value) -> Result<(), (OpEnd, Value)>
     requires array { RefersToArray heap.old at }
     requires among { IsAmong heap.old v }
@@ -80,7 +80,7 @@ pub fn append(heap: &mut CountedHeap, at: Ref, v: Value) -> Result<(), (OpEnd, V
 
 /// Takes all items of an array away, and lets go what they refer to. `NullPointer` comes exactly
 /// where the reference is null. It takes no memory.
-#[tactic(auto, using(crate::proofs::Puts::puts))]
+#[tactic(auto, using(crate::proofs::Changes::changes))]
 pub fn clear(heap: &mut CountedHeap, at: Ref) -> Result<(), Trap>
     requires array { RefersToArray heap.old at }
     ensures cleared { OnOk result (Does heap.old
@@ -102,7 +102,7 @@ pub fn clear(heap: &mut CountedHeap, at: Ref) -> Result<(), Trap>
 /// still. What stands nowhere then is handed back, with its hold: the old item, or the value.
 /// `NullPointer` comes exactly where the reference is null; the value is handed back then. The next
 /// index is `index.wrapping_add(1)`.
-#[tactic(auto, using(crate::proofs::Puts::puts))]
+#[tactic(auto, using(crate::proofs::Changes::changes))]
 pub fn fill(heap: &mut CountedHeap, at: Ref, index: i64, v: Value) -> Result<Value, (Trap, Value)>
     requires array { RefersToArray heap.old at }
     requires among { IsAmong heap.old v }
