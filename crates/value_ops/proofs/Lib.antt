@@ -5,4 +5,5 @@ pub mod Wants
 pub mod Has
 pub mod Items
 pub mod Changes
+pub mod Clearing
 pub mod Builds
