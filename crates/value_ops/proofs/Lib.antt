@@ -6,4 +6,5 @@ pub mod Has
 pub mod Items
 pub mod Changes
 pub mod Clearing
-pub mod Builds
+pub mod Sizes
+pub mod Makes

@@ -9,7 +9,7 @@ ghost use Rattle.ck_store.specs.Arrays.{size_of, row_made, array_made};
 ghost use Rattle.ck_store.specs.Arrays.{sizes_of, grid_made, row_added, rows_added};
 ghost use Rattle.object_heap.specs.declared.body.Body.TheVariants.{Array};
 ghost use Rattle.object_heap.specs.Objects.{IsArray};
-ghost use Rattle.counted_heap.specs.Places.{hits, places};
+ghost use Rattle.counted_heap.specs.Places.{places};
 ghost use Rattle.counted_heap.specs.Counted.{object, outside, AreAmong, Enters, SameHolds, Makes};
 ghost use Rattle.value_ops.specs.Ends.{IsGiven, IsEnd, OnTrap, OnWant};
 ghost use Rattle.value_ops.specs.Heaps.{Refuses, Ends, Does, DoesPartly, KeepsObjects, KeepsUnits};
@@ -26,8 +26,7 @@ use std::alloc::Global;
 /// What an item of this type begins with.
 #[inline(always)] // a row has up to a million
 fn default_of(alloc: Global, elem: Elem) -> Result<Value, Memory>
-    ensures first { IfOk result (λ v. meant v ≡ default_of elem) }
-    ensures null { IfOk result (λ v. (r : Ref) → hits r v ≡ 0) }
+    ensures { IfOk result (λ v. meant v ≡ default_of elem) }
 {
     const NULL: Ref = Ref { serial: 0, slot: 0 };
     Ok(match elem {
@@ -43,8 +42,7 @@ fn default_of(alloc: Global, elem: Elem) -> Result<Value, Memory>
 
 /// So many items, as they begin.
 fn defaults(alloc: Global, elem: Elem, n: usize) -> Result<List<Value>, Memory>
-    ensures first { IfOk result (λ items. all_meant items ≡ replicate n (default_of elem)) }
-    ensures null { IfOk result (λ items. (r : Ref) → places r items ≡ 0) }
+    ensures { IfOk result (λ items. all_meant items ≡ replicate n (default_of elem)) }
 {
     let mut items = Vec::with_capacity(alloc, n)?;
     for _ in 0..n {
@@ -56,7 +54,7 @@ fn defaults(alloc: Global, elem: Elem, n: usize) -> Result<List<Value>, Memory>
 /// Makes an array of these items, which are arrays of `elem` if `two`, and holds it; the array holds
 /// what the items refer to then. `ObjectLimit` comes exactly where 2^48 objects were made. Where none
 /// is made, what the items refer to is let go.
-#[tactic(auto, using(crate::proofs::Builds::builds))]
+#[tactic(auto, using(crate::proofs::Makes::makes))]
 pub fn array(
     heap: &mut CountedHeap,
     elem: Elem,
@@ -84,7 +82,7 @@ pub fn array(
 }
 
 /// Makes an array of these items, or hands it back; nothing has changed then.
-#[tactic(auto, using(crate::proofs::Builds::builds))]
+#[tactic(auto, using(crate::proofs::Makes::makes))]
 fn make(
     heap: &mut CountedHeap,
     elem: Elem,
@@ -109,9 +107,32 @@ fn make(
     }
 }
 
+/// Makes an array of items that refer to nothing, and holds it.
+#[tactic(auto, using(crate::proofs::Makes::makes))]
+fn fresh(
+    heap: &mut CountedHeap,
+    elem: Elem,
+    two: bool,
+    items: List<Value>,
+) -> Result<Ref, OpEnd>
+    requires none { (r : Ref) → places r items ≡ 0 }
+    ensures object { IfOk result (λ at. Makes heap.old heap.new at (Array elem two items)) }
+    ensures made { IfOk result (λ at. Does heap.old
+        (array_made elem two (all_meant items))
+        (λ after. record { reference = ARef at.serial; store = after }) heap.new) }
+    ensures end { IfErr result (Ends heap.old (array_made elem two (all_meant items))) }
+    ensures same { OnErr result (heap.new ≡ heap.old) }
+    ensures units { KeepsUnits heap.old heap.new }
+{
+    match make(heap, elem, two, items) {
+        Ok(at) => Ok(at),
+        Err((end, _)) => Err(end),
+    }
+}
+
 /// Makes an array of `n` items, as they begin, and holds it. `ArrayLimit` comes exactly where `n` is
 /// below 0 or above 1,048,576, and `ObjectLimit` exactly where it is not, and 2^48 objects were made.
-#[tactic(auto, using(crate::proofs::Builds::builds))]
+#[tactic(auto, using(crate::proofs::Makes::makes))]
 pub fn row(alloc: Global, heap: &mut CountedHeap, elem: Elem, n: i64) -> Result<Ref, OpEnd>
     ensures made { IfOk result (λ at. Does heap.old (row_made elem (AnInt n))
         (λ after. record { reference = ARef at.serial; store = after }) heap.new) }
@@ -125,10 +146,7 @@ pub fn row(alloc: Global, heap: &mut CountedHeap, elem: Elem, n: i64) -> Result<
         return Err(OpEnd::Trap(Trap::ObjectLimit));
     }
     let items = defaults(alloc, elem, n)?;
-    match make(heap, elem, false, items) {
-        Ok(at) => Ok(at),
-        Err((end, _)) => Err(end),
-    }
+    fresh(heap, elem, false, items)
 }
 
 /// The size of an array.
@@ -162,7 +180,7 @@ fn sizes(n: i64, m: i64) -> Result<(usize, usize), OpEnd>
 /// after another, and it holds them. `ArrayLimit` comes exactly where `n` or `m` is below 0, or `n` or
 /// their product is above 1,048,576, and `Memory` only where they aren't. `ObjectLimit` comes where an
 /// object was wanted after 2^48; what was made before it was made, and is let go.
-#[tactic(auto, using(crate::proofs::Builds::builds))]
+#[tactic(auto, using(crate::proofs::Makes::makes))]
 pub fn grid(alloc: Global, heap: &mut CountedHeap, elem: Elem, n: i64, m: i64) -> Result<Ref, OpEnd>
     ensures made { IfOk result (λ at. DoesPartly heap.old
         (grid_made elem (AnInt n) (AnInt m)) (Gives (ARef at.serial)) heap.new) }
@@ -175,10 +193,7 @@ pub fn grid(alloc: Global, heap: &mut CountedHeap, elem: Elem, n: i64, m: i64) -
 {
     let (rows, columns) = sizes(n, m)?;
     let items = List::from_vec(Vec::with_capacity(alloc, rows)?);
-    let at = match make(heap, elem, true, items) {
-        Ok(at) => at,
-        Err((end, _)) => return Err(end),
-    };
+    let at = fresh(heap, elem, true, items)?;
     match add_rows(alloc, heap, elem, rows, columns, at) {
         Ok(()) => Ok(at),
         Err(end) => {
@@ -189,7 +204,7 @@ pub fn grid(alloc: Global, heap: &mut CountedHeap, elem: Elem, n: i64, m: i64) -
 }
 
 /// Puts so many rows more at the end of an array of arrays, which holds them.
-#[tactic(auto, using(crate::proofs::Builds::builds))]
+#[tactic(auto, using(crate::proofs::Makes::makes))]
 fn add_rows(
     alloc: Global,
     heap: &mut CountedHeap,
@@ -213,7 +228,7 @@ fn add_rows(
 }
 
 /// Makes one row more, and puts it at the end of an array of arrays, which holds it.
-#[tactic(auto, using(crate::proofs::Builds::builds))]
+#[tactic(auto, using(crate::proofs::Makes::makes))]
 fn add_row(
     alloc: Global,
     heap: &mut CountedHeap,
@@ -232,10 +247,7 @@ fn add_row(
     ensures units { KeepsUnits heap.old heap.new }
 {
     let items = defaults(alloc, elem, columns)?;
-    let row = match make(heap, elem, false, items) {
-        Ok(row) => row,
-        Err((end, _)) => return Err(end),
-    };
+    let row = fresh(heap, elem, false, items)?;
     match heap.grow(grid, Value::Ref(row)) {
         Ok(()) => Ok(()),
         Err(back) => {

@@ -1,7 +1,7 @@
 use Rattle.std.proofs.Common.{◌≡◌, ℤ, pos, int_lt, true, false, sym, subst, ◌∙◌, w64}
 use Rattle.std.proofs.lemmas.Int.{to_z-of_z}
 use Rattle.ck_base.specs.declared.limits.TheConstants.{MAX_ITEMS}
-use Rattle.value_ops.proofs.Makes.{size_low, size_high, size_so, abs_is}
+use Rattle.value_ops.proofs.Sizes.{size_low, size_high, size_so, abs_is}
 use Rattle.value_ops.proofs.rows.size_of.Goals as goal
 use Rattle.value_ops.proofs.rows.size_of.Goals.{then-n-lt0-via-then-n-lt0, then-n-lt0-via-else-n-lt0+then-n-gt-MAX_ITEMS}
 

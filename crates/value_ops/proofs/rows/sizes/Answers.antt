@@ -1,7 +1,7 @@
 use Rattle.std.proofs.Common.{◌≡◌, ℤ, pos, int_lt, true, sym, subst, ◌∙◌, w64, to_z, of_z}
 use Rattle.std.proofs.lemmas.Int.{to_z-of_z}
 use Rattle.ck_base.specs.declared.limits.TheConstants.{MAX_ITEMS}
-use Rattle.value_ops.proofs.Makes.{sizes_low, sizes_narrow, sizes_long, sizes_many, sizes_so, abs_is, few_is, many_is, all_is}
+use Rattle.value_ops.proofs.Sizes.{sizes_low, sizes_narrow, sizes_long, sizes_many, sizes_so, abs_is, few_is, many_is, all_is}
 use Rattle.value_ops.proofs.rows.sizes.Goals as goal
 use Rattle.value_ops.proofs.rows.sizes.Goals.{then-n-lt0-via-then-n-lt0, then-n-lt0-via-else-n-lt0+then-m-lt0, then-n-lt0-via-else-n-lt0+else-m-lt0+then-n-gt-MAX_ITEMS}
 

@@ -1,4 +1,0 @@
--- x
-use Rattle.std.proofs.Common.{refl}
-
-pub ruleset builds = (refl)
