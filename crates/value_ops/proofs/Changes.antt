@@ -8,17 +8,17 @@ use Rattle.ck_values.specs.declared.trap.Trap.{Trap}
 use Rattle.ck_values.specs.declared.trap.Trap.TheVariants.{NullPointer, ArrayOutOfBounds, ArrayLimit}
 use Rattle.ck_values.specs.declared.value.Value.{Value}
 use Rattle.ck_values.specs.Datum.{Datum, AnInt, ARef, meant, all_meant}
-use Rattle.ck_store.specs.Store.{Store, Try, Gives, Fails, Misfit}
+use Rattle.ck_store.specs.Store.{Store, Try, Gives, Fails}
 use Rattle.ck_store.specs.Steps.{and_then, pick}
 use Rattle.ck_store.specs.Operators.{wrapped}
-use Rattle.ck_store.specs.Arrays.{Line, array_at, with_items, item_at, item_of, replaced, with_item, is_within, grown, appended, cleared, Filled, next_index, filled}
+use Rattle.ck_store.specs.Arrays.{Line, with_items, item_at, item_of, replaced, with_item, is_within, grown, appended, Filled, next_index, filled}
 use Rattle.object_heap.specs.declared.body.Body.{Body}
 use Rattle.object_heap.specs.declared.body.Body.TheVariants.{Array}
 use Rattle.object_heap.specs.Objects.{Objects, IsArray, values_of, with_values, with_body}
-use Rattle.counted_heap.specs.Counted.{Counted, object, Rewrites}
+use Rattle.counted_heap.specs.Counted.{Counted, object}
 use Rattle.counted_heap.specs.Stands.{numbered, StandsFor, StandsOn}
 use Rattle.value_ops.specs.Ends.{IsGiven, left_over}
-use Rattle.value_ops.specs.Heaps.{HasObjects, HasAfter, IsArrayOf, Reads}
+use Rattle.value_ops.specs.Heaps.{HasObjects, HasAfter, IsArrayOf}
 use Rattle.value_ops.proofs.Wants.{is_given}
 use Rattle.value_ops.proofs.Has.{after_so, put}
 use Rattle.value_ops.proofs.Items.{length_meant, set_meant, of_found, line, array_is, null_is, past_so, at_here, at_out, item_here, item_out}

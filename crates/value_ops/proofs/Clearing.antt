@@ -4,20 +4,19 @@ use Rattle.ck_values.specs.declared.reference.Ref.{Ref}
 use Rattle.ck_values.specs.declared.trap.Trap.{Trap}
 use Rattle.ck_values.specs.declared.trap.Trap.TheVariants.{NullPointer}
 use Rattle.ck_values.specs.declared.value.Value.{Value}
-use Rattle.ck_values.specs.Datum.{ARef, all_meant}
+use Rattle.ck_values.specs.Datum.{ARef}
 use Rattle.ck_store.specs.Store.{Store, Gives, Fails}
 use Rattle.ck_store.specs.Steps.{and_then}
 use Rattle.ck_store.specs.Arrays.{with_items, cleared}
 use Rattle.object_heap.specs.declared.body.Body.{Body}
 use Rattle.object_heap.specs.declared.body.Body.TheVariants.{Array}
 use Rattle.object_heap.specs.Objects.{Objects, IsArray, values_of, with_values, with_body}
-use Rattle.counted_heap.specs.Counted.{Counted, object, outside, SameObjects, SameHolds, Enters, Leaves, Rewrites}
-use Rattle.counted_heap.specs.Places.{hits}
+use Rattle.counted_heap.specs.Counted.{Counted, object, SameObjects, SameHolds, Enters, Leaves, Rewrites}
 use Rattle.counted_heap.specs.Stands.{StandsFor, StandsOn}
 use Rattle.value_ops.specs.Heaps.{HasObjects, HasAfter, IsArrayOf, KeepsUnits}
 use Rattle.value_ops.proofs.Has.{after_so}
 use Rattle.value_ops.proofs.Items.{of_found, line, array_is, null_is}
-use Rattle.value_ops.proofs.Changes.{ItemsOn, after_items, array_set, still_on}
+use Rattle.value_ops.proofs.Changes.{ItemsOn, after_items, still_on}
 
 -- how many items an array has yet
 abbrev pub count_of : Option Body → ℕ

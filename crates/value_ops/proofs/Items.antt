@@ -1,5 +1,5 @@
 -- What is read of arrays, by what their items stand for.
-use Rattle.std.proofs.Common.{◌≡◌, ℕ, ℤ, zero, suc, pos, negsuc, ◌≤◌, ◌<◌, nat_lt, true, false, Bool, List, length, Option, Some, None, IfSome, IfNone, is_some, refl, ap, sym, subst, ◌∙◌, arith, slice_get, slice_set}
+use Rattle.std.proofs.Common.{◌≡◌, ℕ, ℤ, pos, negsuc, ◌≤◌, ◌<◌, nat_lt, true, false, Bool, List, length, Option, Some, None, IfSome, IfNone, is_some, refl, ap, sym, subst, ◌∙◌, arith, slice_get, slice_set}
 use Rattle.std.specs.Option.{option_map}
 use Rattle.std.proofs.lemmas.Bool.Decides.{nat_tests}
 use Rattle.std.proofs.lemmas.List.{length-map, map-set}
@@ -14,7 +14,7 @@ use Rattle.ck_store.specs.Store.{Object, Items, Store, Gives, Fails}
 use Rattle.ck_store.specs.Steps.{and_then}
 use Rattle.ck_store.specs.Arrays.{Line, line_of, array_at, there, item_at, item_of, item_count, is_within, has_item}
 use Rattle.object_heap.specs.declared.body.Body.TheVariants.{Array}
-use Rattle.counted_heap.specs.Places.{hits, places}
+use Rattle.counted_heap.specs.Places.{places}
 use Rattle.counted_heap.specs.Counted.{Counted, count}
 use Rattle.counted_heap.proofs.Counting.{places-get}
 use Rattle.value_ops.specs.Heaps.{HasObjects, IsArrayOf, CanBeHeld}

@@ -16,7 +16,7 @@ use Rattle.ck_store.specs.Arrays.{Partly, size_of, row_of, row_made, array_made,
 use Rattle.object_heap.specs.declared.body.Body.{Body}
 use Rattle.object_heap.specs.declared.body.Body.TheVariants.{Instance, Array, Ugen}
 use Rattle.object_heap.specs.Objects.{IsArray}
-use Rattle.counted_heap.specs.Counted.{Counted, object, outside, Makes, IsAmong, AreAmong, SameHolds, Enters, Leaves}
+use Rattle.counted_heap.specs.Counted.{Counted, object, outside, Makes, IsAmong, SameHolds, Enters, Leaves}
 use Rattle.counted_heap.specs.Stands.{StandsOn}
 use Rattle.counted_heap.specs.Places.{hit, hits, places}
 use Rattle.counted_heap.proofs.Counting.{hit-null, hit-same}

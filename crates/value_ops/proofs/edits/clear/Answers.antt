@@ -1,5 +1,5 @@
 use Rattle.std.proofs.lemmas.Result.{err_from_is_err_and}
-use Rattle.value_ops.proofs.Clearing.{clear_null, clearing_array, clearing_end, clearing_first, clearing_smaller, clearing_step}
+use Rattle.value_ops.proofs.Clearing.{clear_null, clearing_end, clearing_first, clearing_step}
 use Rattle.value_ops.proofs.edits.clear.Goals as goal
 
 pub returns-in_err-items_of-clause-trap : goal.returns-in_err-items_of-clause-trap
