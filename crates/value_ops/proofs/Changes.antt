@@ -82,9 +82,9 @@ after_set old new store r items z i v a has is on =
     (meant v)) ≡ after)
     (after_items old new store r items (slice_set items i v) a has (set_on old new r items i v a on))
     (λ after so.
-        ap (λ z. with_items store (ARef r.serial) array (replaced (all_meant items) (AnInt z)
-        (meant v))) is
-        ∙ ap (with_items store (ARef r.serial) array) (sym (set_meant items i v)) ∙ so)
+    ap (λ z. with_items store (ARef r.serial) array (replaced (all_meant items) (AnInt z)
+    (meant v))) is
+    ∙ ap (with_items store (ARef r.serial) array) (sym (set_meant items i v)) ∙ so)
 
 set_goes : Store → Datum → Datum → Datum → Line → Try Store
 set_goes s r i v line =
@@ -131,9 +131,9 @@ set_here old new store r items z i was v has a is found on =
     (λ after. with_item store (ARef r.serial) (AnInt z) (meant v) ≡ Gives after)
     (after_set old new store r items z i v a has is on)
     (λ after so.
-        set_so old store r items (AnInt z) (meant v) has a
-        ∙ ap (λ t. and_then t goes) (at_here items z i was is (old_set old r items i was a found))
-        ∙ ap Gives so)
+    set_so old store r items (AnInt z) (meant v) has a
+    ∙ ap (λ t. and_then t goes) (at_here items z i was is (old_set old r items i was a found))
+    ∙ ap Gives so)
 
 pub got_here : (heap : Counted) (store : Store) (r : Ref) (items : List Value) (z : ℤ) (i : ℕ)
     (old : Value) → HasObjects heap store → IsArrayOf heap r items → z ≡ pos i
@@ -228,10 +228,10 @@ fill_out heap store r items z v has a out =
     (after_items heap heap store r items items a has
     (still_on heap r (Array a.elem a.two items) a.is))
     (λ after so.
-        fill_so heap store r items z v has a
-        ∙ ap (λ ds. Gives (filled_with z (with_items store (ARef r.serial) array ds)))
-        (unreplaced items z v out)
-        ∙ ap (λ s. Gives (filled_with z s)) so)
+    fill_so heap store r items z v has a
+    ∙ ap (λ ds. Gives (filled_with z (with_items store (ARef r.serial) array ds)))
+    (unreplaced items z v out)
+    ∙ ap (λ s. Gives (filled_with z s)) so)
 
 pub over_here : (heap : Counted) (store : Store) (r : Ref) (items : List Value) (z : ℤ) (i : ℕ)
     (old : Value) (v : Datum) → HasObjects heap store → IsArrayOf heap r items → z ≡ pos i

@@ -123,9 +123,9 @@ clear_here old new store r items has a on =
     (λ after. cleared store (ARef r.serial) ≡ Gives after)
     (after_items old new store r items [] a has on)
     (λ after so.
-        ap (λ t. and_then t (λ line. Gives (with_items store (ARef r.serial) line [])))
-        (array_is old store r items has a)
-        ∙ ap Gives so)
+    ap (λ t. and_then t (λ line. Gives (with_items store (ARef r.serial) line [])))
+    (array_is old store r items has a)
+    ∙ ap Gives so)
 
 pub clear_null : (store : Store) (r : Ref) (trap : Trap) → trap ≡ NullPointer → r.serial ≡ 0
     → cleared store (ARef r.serial) ≡ Fails trap

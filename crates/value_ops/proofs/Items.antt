@@ -1,5 +1,5 @@
 -- What is read of arrays, by what their items stand for.
-use Rattle.std.proofs.Common.{◌≡◌, ℕ, ℤ, pos, negsuc, ◌≤◌, ◌<◌, nat_lt, true, false, Bool, List, length, Option, Some, None, IfSome, IfNone, is_some, refl, ap, sym, subst, ◌∙◌, arith, slice_get, slice_set}
+use Rattle.std.proofs.Common.{◌≡◌, ℕ, ℤ, pos, negsuc, ◌≤◌, ◌<◌, nat_lt, true, false, Bool, List, length, Option, Some, None, IsSome, IsSomeAnd, IfSome, IfNone, is_some, ◌⊎◌, inl, inr, refl, ap, sym, subst, ◌∙◌, arith, slice_get, slice_set}
 use Rattle.std.specs.Option.{option_map}
 use Rattle.std.proofs.lemmas.Bool.Decides.{nat_tests}
 use Rattle.std.proofs.lemmas.List.{length-map, map-set}
@@ -10,14 +10,16 @@ use Rattle.ck_values.specs.declared.trap.Trap.{Trap}
 use Rattle.ck_values.specs.declared.trap.Trap.TheVariants.{NullPointer, ArrayOutOfBounds}
 use Rattle.ck_values.specs.declared.value.Value.{Value}
 use Rattle.ck_values.specs.Datum.{Datum, AnInt, ARef, meant, all_meant}
-use Rattle.ck_store.specs.Store.{Object, Items, Store, Gives, Fails}
+use Rattle.ck_store.specs.Store.{Object, Items, Store, Try, Gives, Fails, IsFitting}
 use Rattle.ck_store.specs.Steps.{and_then}
 use Rattle.ck_store.specs.Arrays.{Line, line_of, array_at, there, item_at, item_of, item_count, is_within, has_item}
-use Rattle.object_heap.specs.declared.body.Body.TheVariants.{Array}
+use Rattle.object_heap.specs.declared.body.Body.{Body}
+use Rattle.object_heap.specs.declared.body.Body.TheVariants.{Instance, Array, Ugen}
+use Rattle.object_heap.specs.Objects.{IsArray}
 use Rattle.counted_heap.specs.Places.{places}
-use Rattle.counted_heap.specs.Counted.{Counted, count}
+use Rattle.counted_heap.specs.Counted.{Counted, object, count}
 use Rattle.counted_heap.proofs.Counting.{places-get}
-use Rattle.value_ops.specs.Heaps.{HasObjects, IsArrayOf, CanBeHeld}
+use Rattle.value_ops.specs.Heaps.{shown_body, HasObjects, IsArrayOf, RefersToArray, CanBeHeld}
 use Rattle.value_ops.proofs.Has.{IsAt, object_at}
 
 pub length_meant : (values : List Value) → length (all_meant values) ≡ length values
@@ -54,6 +56,31 @@ pub array_is : (heap : Counted) (store : Store) (r : Ref) (items : List Value)
 array_is heap store r items has a =
     array_in store.objects r a.elem a.two items
     (object_at heap store r (Array a.elem a.two items) has a.is)
+
+fits_so : (heap : Counted) (r : Ref) (b : Body) → object heap r ≡ Some b
+    → IsFitting (line_of (Some (shown_body b))) → IsSomeAnd (object heap r) IsArray
+fits_so heap r (Instance class fields) is fits = absurd fits
+fits_so heap r (Array elem two items) is fits = rw is tt
+fits_so heap r (Ugen node) is fits = absurd fits
+
+fits_in : (heap : Counted) (store : Store) (r : Ref) (o : Option Body) → HasObjects heap store
+    → object heap r ≡ o → IsSome o → IsFitting (array_at store.objects (ARef r.serial))
+    → IsSomeAnd (object heap r) IsArray
+unfolding array_at
+fits_in heap store r None has is live fits = absurd (cc)
+fits_in heap store r (Some b) has is live fits =
+    let at = object_at heap store r b has is in
+    fits_so heap r b is (subst (λ (t : Try Line). IsFitting t)
+    (ap (λ s. array_at store.objects (ARef s)) at.serial ∙ ap line_of at.here) fits)
+
+-- what callers have: a reference that is null or to a live object refers to an array where a step
+-- can take it as one
+pub refers_to_array : (heap : Counted) (store : Store) (r : Ref) → HasObjects heap store
+    → (r.serial ≡ 0) ⊎ IsSome (object heap r) → IsFitting (array_at store.objects (ARef r.serial))
+    → RefersToArray heap r
+refers_to_array heap store r has (inl null) fits = inl null
+refers_to_array heap store r has (inr live) fits =
+    inr (fits_in heap store r (object heap r) has refl live fits)
 
 -- null is no array
 pub null_is : (objects : List Object) (r : Ref) (trap : Trap) → trap ≡ NullPointer → r.serial ≡ 0

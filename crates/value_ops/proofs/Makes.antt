@@ -233,9 +233,9 @@ added_row old mid new at r e m items v so made fits is on = λ store has.
     (λ after. grown first (ARef r.serial) (meant v) ≡ Gives after)
     (λ after. row_added e m (ARef r.serial) store ≡ Gives after)
     (grown_here mid new first r h.items v has_first h.is on) (λ after last.
-        added_row_so store e m (ARef r.serial) items so
-        ∙ ap (λ t. and_then t (λ made. grown made.store (ARef r.serial) made.reference)) was
-        ∙ ap (grown first (ARef r.serial)) (sym is) ∙ last))
+    added_row_so store e m (ARef r.serial) items so
+    ∙ ap (λ t. and_then t (λ made. grown made.store (ARef r.serial) made.reference)) was
+    ∙ ap (grown first (ARef r.serial)) (sym is) ∙ last))
 
 -- row after row
 pub record Adding (old new : Counted) (r : Ref) (rows : ℕ) (e : Elem) (columns done : ℕ)
@@ -292,8 +292,8 @@ adding_step old mid new r rows e columns done more k units holds fits one = reco
       (λ after. row_added e columns (ARef r.serial) was ≡ Gives after)
       (λ after. all ≡ rest after)
       (one was has_was) (λ after last.
-          so ∙ rest_so was (rows - (done + 1)) e columns (ARef r.serial) (rows - done) count
-          ∙ ap (λ t. and_more t was rest) last));
+      so ∙ rest_so was (rows - (done + 1)) e columns (ARef r.serial) (rows - done) count
+      ∙ ap (λ t. and_more t was rest) last));
 }
 
 pub adding_done : (old new : Counted) (r : Ref) (rows : ℕ) (e : Elem) (columns done : ℕ)
@@ -430,8 +430,8 @@ grid_then old mid new at e x y s items end none is made rows = λ store has.
     ≡ record { store = after; end = end })
     (λ after. grid_made e x y store ≡ record { store = after; end = end })
     (rows was has_was) (λ after last.
-        grid_rows store e x y s (made_as at was) is
-        (unfilled store e items (Gives (made_as at was)) none so) ∙ last))
+    grid_rows store e x y s (made_as at was) is
+    (unfilled store e items (Gives (made_as at was)) none so) ∙ last))
 
 -- a heap that has the same objects does as well
 pub partly_kept : (old mid new : Counted) (step : Store → Partly) (end : Try Datum)

@@ -4,8 +4,7 @@ use Rattle.ck_values.specs.declared.operator.Op2.{Op2}
 use Rattle.ck_values.specs.declared.operator.Op2.TheVariants.{AddTextText, AddTextInt, AddTextFloat, AddIntText, AddFloatText}
 use Rattle.ck_values.specs.declared.trap.Trap.{Trap as TrapName}
 use Rattle.ck_values.specs.Datum.{Datum}
-use Rattle.ck_store.specs.Store.{Store, Try, Gives, Fails, Misfit}
-use Rattle.ck_store.specs.Arrays.{Partly}
+use Rattle.ck_store.specs.Store.{Try, Gives, Fails, Misfit}
 use Rattle.value_ops.specs.declared.end.OpEnd.{OpEnd}
 use Rattle.value_ops.specs.declared.end.OpEnd.TheVariants.{Trap, Memory}
 
@@ -46,12 +45,6 @@ OnTrap (Memory _) P = Unit {0}
 abbrev pub OnWant : OpEnd → Type 0 → Type 0
 OnWant (Trap trap) P = Unit {0}
 OnWant (Memory _) P = P
-
--- the operation ended by the trap that its definition gives, and left the store that it gives, or
--- there was not enough memory
-abbrev pub IsPartEnd : OpEnd → Partly → Store → Type 0
-IsPartEnd end partly store =
-    OnTrap end (λ trap. partly ≡ record { store = store; end = Fails trap })
 
 -- what an item that is set leaves over: the old item, or the new one where there is no such item
 abbrev pub left_over : (old : Try Datum) → (new : Datum) → Datum

@@ -3,12 +3,15 @@
 //! how they grow.
 //!
 //! Its one contract: each call gives the value of its definition in ck_store, or ends by exactly
-//! the trap which that definition gives, and a heap of objects is left as that definition says.
-//! Only a call that makes a string, a print's text or an array or that adds an item takes memory,
-//! and no other call can want any. It looks at its limits first, so it wants memory only where its
-//! definition gives a value. Two calls are bound to begin before they know of a trap: a string is
-//! made of two values before its length is known, and a row of an array of arrays may want memory
-//! before a later one passes the limit of objects. The machine computes with these calls.
+//! the trap which that definition gives, and a heap that had the objects of a store has those of
+//! the store which that definition makes of it. What a value that is put into an array refers to,
+//! the array holds from then on; what is handed back or made, the caller holds; and what stands
+//! nowhere any more is let go. Only a call that makes a string, a print's text or an array or that
+//! adds an item takes memory, and no other call can want any. It looks at its limits first, so it
+//! wants memory only where its definition gives a value. Two calls are bound to begin before they
+//! know of a trap: a string is made of two values before its length is known, and a row of an array
+//! of arrays may want memory before a later one passes the limit of objects. The machine computes
+//! with these calls.
 #![tactic(auto)]
 
 mod arrays;

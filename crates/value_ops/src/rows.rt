@@ -109,12 +109,7 @@ fn make(
 
 /// Makes an array of items that refer to nothing, and holds it.
 #[tactic(auto, using(crate::proofs::Makes::makes))]
-fn fresh(
-    heap: &mut CountedHeap,
-    elem: Elem,
-    two: bool,
-    items: List<Value>,
-) -> Result<Ref, OpEnd>
+fn fresh(heap: &mut CountedHeap, elem: Elem, two: bool, items: List<Value>) -> Result<Ref, OpEnd>
     requires none { (r : Ref) → places r items ≡ 0 }
     ensures object { IfOk result (λ at. Makes heap.old heap.new at (Array elem two items)) }
     ensures made { IfOk result (λ at. Does heap.old
