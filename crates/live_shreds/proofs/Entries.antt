@@ -1,6 +1,6 @@
 -- The entries of a map of shreds by their numbers.
-use Rattle.std.proofs.Common.{◌≡◌, ℕ, zero, suc, ◌+◌, ◌<◌, ◌≤◌, inl, inr, Bool, true, false, cond, not, nat_eq, ◌&&◌, subst}
-use Rattle.std.proofs.Common.{List, [], ◌∷◌, ◌++◌, map, find, Option, Some, None, slice_get, slice_set, refl, sym, ap, ◌∙◌, arith}
+use Rattle.std.proofs.Common.{◌≡◌, ℕ, suc, ◌<◌, Bool, true, false, cond, not, nat_eq, ◌&&◌, subst}
+use Rattle.std.proofs.Common.{List, [], ◌∷◌, ◌++◌, Some, slice_get, slice_set, refl, sym, ap, ◌∙◌, arith}
 use Rattle.std.specs.BTreeMap.{insert_entry, is_at}
 use Rattle.std.specs.Cmp.{unsigned_tied, ranks}
 use Rattle.std.specs.List.{AllByRecursion}
@@ -9,10 +9,10 @@ use Rattle.std.specs.Map.{keys_of, values_of, lookup, remove_entry, set_value}
 use Rattle.std.specs.Ordering.{is_eq, nat_cmp, match_ordering, MatchOrdering}
 use Rattle.std.specs.declared.cmp.Ordering.{Ordering}
 use Rattle.std.specs.declared.cmp.Ordering.TheVariants.{Less, Equal, Greater}
-use Rattle.std.proofs.lemmas.Bool.{eq-eqb, ne_eqb, eqb-true}
+use Rattle.std.proofs.lemmas.Bool.{eqb-true}
 use Rattle.std.proofs.lemmas.Map.Keys.{sorted_head, sorted_tail}
 use Rattle.shred_state.specs.Frames.{Standing}
-use Rattle.live_shreds.specs.Live.{live, without, AreBelow, IsNamed, times_child}
+use Rattle.live_shreds.specs.Live.{numbered, without, AreBelow, IsNamed, times_child}
 use Rattle.live_shreds.proofs.Counts.{turned, mark, children-cons}
 
 abbrev pub Entries : Type 0
@@ -23,7 +23,7 @@ AreNamed es = AllByRecursion IsNamed es
 
 -- a map finds a shred where its number is
 pub lookup-live : (n : ℕ) (es : Entries) → AreNamed es
-    → lookup (is_at (nat_cmp n)) es ≡ live n (values_of es)
+    → lookup (is_at (nat_cmp n)) es ≡ numbered n (values_of es)
 lookup-live n [] named = refl
 lookup-live n (e ∷ es) named =
     let same : is_eq (nat_cmp n e.0) ≡ nat_eq e.1.number n =
@@ -185,3 +185,17 @@ set-placed test (e ∷ es) old new found = by (test e.0) found (set-placed test 
         ≡ slice_set (values_of (e ∷ es)) place new)
     by true found ih = (0, found, refl)
     by false found ih = let more = ih found in (suc more.0, more.1, ap (λ ss. e.1 ∷ ss) more.2)
+
+-- once it is taken out, all is as if it had not stood anew
+pub removed-anew : (test : ℕ → Bool) (es : Entries) (new : Standing)
+    → remove_entry test (set_value test es new) ≡ remove_entry test es
+removed-anew test [] new = refl
+removed-anew test (e ∷ es) new = by (test e.0) refl (removed-anew test es new)
+  where
+    by : (b : Bool) → test e.0 ≡ b → remove_entry test (set_value test es new) ≡ remove_entry test es
+        → remove_entry test (cond b ((e.0, new) ∷ es) (e ∷ set_value test es new))
+        ≡ cond b es (e ∷ remove_entry test es)
+    by true is ih = ap (λ b. cond b es ((e.0, new) ∷ remove_entry test es)) is
+    by false is ih =
+        ap (λ b. cond b (set_value test es new) (e ∷ remove_entry test (set_value test es new))) is
+        ∙ ap (λ es. e ∷ es) ih

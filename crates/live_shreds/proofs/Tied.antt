@@ -1,17 +1,17 @@
 -- Shreds and the queues of their children.
-use Rattle.std.proofs.Common.{◌≡◌, ℕ, ◌+◌, ◌<◌, ◌≤◌, Bool, true, false, cond, not, nat_eq, zero, suc, List, [], ◌∷◌, ◌++◌, find, length, slice_index_or, is_some, Option, Some, None, IfSome, IfNone, refl, sym, ap, ◌∙◌, subst, arith}
+use Rattle.std.proofs.Common.{◌≡◌, ℕ, ◌<◌, ◌≤◌, Bool, true, false, cond, nat_eq, zero, suc, List, [], ◌∷◌, ◌++◌, find, length, slice_index_or, is_some, Option, Some, None, IfSome, IfNone, refl, sym, ap, ◌∙◌, subst, arith}
 use Rattle.std.specs.BTreeMap.{BTreeMap, IsOrdered, values, insert_entry, is_at}
 use Rattle.std.specs.List.{AllByRecursion, IsAmong}
-use Rattle.std.specs.Map.{values_of, remove_entry}
+use Rattle.std.specs.Map.{values_of, remove_entry, set_value, lookup}
 use Rattle.std.specs.Ordering.{is_eq, nat_cmp}
 use Rattle.std.proofs.lemmas.Bool.{eq-eqb, eqb-true}
 use Rattle.std.proofs.lemmas.List.{map-append}
 use Rattle.keyed_lists.specs.Keyed
 use Rattle.shred_queues.specs.Queues.{arrived}
 use Rattle.shred_state.specs.Frames.{Standing}
-use Rattle.live_shreds.specs.Live.{live, child_of, without, AreBelow, EndsWith, Itself, Child, IsNamed, AreTied, times_child}
-use Rattle.live_shreds.proofs.Counts.{found_among, found_passes, find_same, mark, mark-this, mark-other, children-cons, children-append, children-without, children-below, children-none, children-some, child-found, nowhere, children-arrived, asked}
-use Rattle.live_shreds.proofs.Entries.{all-older, insert-last, named-append, values-removed, named-removed}
+use Rattle.live_shreds.specs.Live.{numbered, child_of, without, AreBelow, EndsWith, Itself, Child, IsNamed, AreTied, times_child}
+use Rattle.live_shreds.proofs.Counts.{found_among, found_passes, mark-other, children-cons, children-append, children-without, children-below, children-none, children-some, child-found, nowhere, children-arrived, asked}
+use Rattle.live_shreds.proofs.Entries.{all-older, insert-last, lookup-live, named-append, values-removed, named-removed, named-anew, children-anew}
 
 abbrev pub number_of : Standing → ℕ
 number_of s = s.number
@@ -159,35 +159,58 @@ module _ (shreds : BTreeMap ℕ Standing) (children : List (ℕ × ℕ)) (tied :
         ∙ ap (times_child child parent p m) (sym taken);
   }
 
+-- a shred that stands anew, as the child of its parent still
+module _ (shreds shreds2 : BTreeMap ℕ Standing) (children : List (ℕ × ℕ)) (tied : AreTied shreds children)
+    (n : ℕ) (old new : Standing) (found : lookup (is_at (nat_cmp n)) shreds.entries ≡ Some old)
+    (is : shreds2.entries ≡ set_value (is_at (nat_cmp n)) shreds.entries new) where
+  pub tied_anew : IsOrdered nat_cmp shreds2 → new.number ≡ old.number → new.parent ≡ old.parent
+      → AreTied shreds2 children
+  tied_anew ordered number parent = record {
+    ordered = ordered;
+    named = subst (AllByRecursion IsNamed) (sym is)
+        (named-anew (is_at (nat_cmp n)) old new number parent shreds.entries found tied.named);
+    tied = λ p m.
+        ap (λ es. times_child number_of parent_of p m (values_of es)) is
+        ∙ children-anew (is_at (nat_cmp n)) old new number parent p m shreds.entries found ∙ tied.tied p m;
+  }
+
+-- the one that a map has at a number has that number
+pub found_number : (shreds : BTreeMap ℕ Standing) (n : ℕ) (old : Standing) → AllByRecursion IsNamed shreds.entries
+    → lookup (is_at (nat_cmp n)) shreds.entries ≡ Some old → old.number ≡ n
+found_number shreds n old named found =
+    eqb-true old.number n
+    (found_passes (λ (s : Standing). nat_eq s.number n) (values shreds) old
+    (sym (lookup-live n shreds.entries named) ∙ found))
+
 -- who is among the shreds is live
 among_live : (s : Standing) (shreds : List Standing) (i : ℕ) → i < length shreds → s ≡ slice_index_or shreds i s
-    → is_some (live s.number shreds) ≡ true
+    → is_some (numbered s.number shreds) ≡ true
 among_live s [] i lt is = absurd (omega (arith, lt))
 among_live s (t ∷ shreds) zero lt is =
-    ap (λ b. is_some (cond b (Some t) (live s.number shreds)))
+    ap (λ b. is_some (cond b (Some t) (numbered s.number shreds)))
     (eq-eqb t.number s.number (ap (λ (s : Standing). s.number) (sym is)))
 among_live s (t ∷ shreds) (suc i) lt is =
     by (nat_eq t.number s.number) (among_live s shreds i (omega (arith, lt)) is)
   where
-    by : (b : Bool) → is_some (live s.number shreds) ≡ true
-        → is_some (cond b (Some t) (live s.number shreds)) ≡ true
+    by : (b : Bool) → is_some (numbered s.number shreds) ≡ true
+        → is_some (cond b (Some t) (numbered s.number shreds)) ≡ true
     by true ih = refl
     by false ih = ih
 
 -- so is who ends with a live one
 pub ending_live : (n m : ℕ) (shreds : List Standing) → EndsWith shreds n m
-    → is_some (live n shreds) ≡ true → is_some (live m shreds) ≡ true
+    → is_some (numbered n shreds) ≡ true → is_some (numbered m shreds) ≡ true
 ending_live n m shreds Itself some = some
 ending_live n m shreds (Child s among up) some = among_live s shreds among.0 among.1.0 among.1.1
 
 -- the shred that was found has its number, and is there
 pub taken_has : (n : ℕ) (shreds : List Standing) (o : Option Standing) (P : ℕ → Type 0)
-    → o ≡ live n shreds → P n → IfSome o (λ s. P s.number)
+    → o ≡ numbered n shreds → P n → IfSome o (λ s. P s.number)
 taken_has n shreds None P is holds = tt
 taken_has n shreds (Some s) P is holds =
     subst P (sym (eqb-true s.number n (found_passes (λ s. nat_eq s.number n) shreds s (sym is)))) holds
 
-pub taken_among : (n : ℕ) (shreds : List Standing) (o : Option Standing) → o ≡ live n shreds
+pub taken_among : (n : ℕ) (shreds : List Standing) (o : Option Standing) → o ≡ numbered n shreds
     → IfSome o (λ s. IsAmong shreds s)
 taken_among n shreds None is = tt
 taken_among n shreds (Some s) is = found_among (λ (s : Standing). nat_eq s.number n) shreds s (sym is)

@@ -7,8 +7,8 @@ use Rattle.keyed_lists.specs.Keyed
 use Rattle.shred_state.specs.Frames.{Standing}
 
 -- the live shred with a number
-abbrev pub live : ℕ → List Standing → Option Standing
-live n shreds = find (λ s. nat_eq s.number n) shreds
+abbrev pub numbered : ℕ → List Standing → Option Standing
+numbered n shreds = find (λ s. nat_eq s.number n) shreds
 
 -- the first child of a shred
 abbrev pub child_of : ℕ → List Standing → Option Standing

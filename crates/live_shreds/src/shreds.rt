@@ -1,12 +1,17 @@
 //! Shreds by their numbers, and the children of each.
 ghost use Rattle.std.specs.Prelude.{◌≡◌, ℕ, ◌<◌, ◌^◌, [], ◌∷◌, ◌++◌, None, is_some};
-ghost use Rattle.std.specs.Prelude.{IfSome, IfNone, OnOk, OnErr};
+ghost use Rattle.std.specs.Prelude.{IfSome, IfNone, IfOk, OnOk, OnErr};
 ghost use Rattle.std.specs.List.{IsAmong};
-ghost use Rattle.live_shreds.specs.Live.{live, child_of, without, AreBelow, EndsWith};
+ghost use Rattle.live_shreds.specs.Live.{numbered, child_of, without, AreBelow, EndsWith};
+ghost use Rattle.live_shreds.specs.Slices.{Ran};
+ghost use Rattle.machine_world.specs.Tries.{HasStore};
+ghost use Rattle.stack_machine.specs.Fitting.{AreSuited};
 
+use ck_code::Code;
 use fixed_point::Memory;
 use shred_queues::Queues;
 use shred_state::Shred;
+use stack_machine::{Acts, Stop, World, slice};
 use std::alloc::Global;
 use std::collections::BTreeMap;
 use std::marker::Model;
@@ -67,15 +72,50 @@ impl Shreds {
 
     /// Whether the shred with a number is live.
     pub fn is_live(&self, number: u64) -> bool
-        ensures { result ≡ is_some (live number self.now) }
+        ensures { result ≡ is_some (numbered number self.now) }
     {
         self.live.contains_key(&number)
+    }
+
+    /// Runs the next slice of the live shred with a number. None exactly where there is none, and
+    /// then nothing has changed.
+    ///
+    /// After `Memory` the caller gives the shreds, the world and the acts up; the shred that could
+    /// not go on is no longer among them.
+    pub fn run_slice(
+        &mut self,
+        alloc: Global,
+        number: u64,
+        code: &Code,
+        world: &mut World,
+        acts: &mut Acts,
+    ) -> Result<Option<Stop>, Memory>
+        requires empty { acts.old ≡ [] }
+        requires suited { IfSome (numbered number self.old) (λ shred.
+            HasStore world.old (AreSuited code.now shred)) }
+        ensures ran { IfOk result (λ stop. IfSome stop (λ stop.
+            Ran stop number code.now self.old self.new world.old world.new acts.new)) }
+        ensures none { IfOk result (λ stop. IfNone stop (numbered number self.old ≡ None)) }
+        ensures same { IfOk result (λ stop. IfNone stop (self.new ≡ self.old)) }
+        ensures world { IfOk result (λ stop. IfNone stop (world.new ≡ world.old)) }
+    {
+        let Some(shred) = self.live.get_mut(&number) else {
+            return Ok(None);
+        };
+        match slice(alloc, code, shred, world, acts) {
+            Ok(stop) => Ok(Some(stop)),
+            Err(failed) => {
+                self.live.remove(&number);
+                self.children.remove(number);
+                Err(failed)
+            }
+        }
     }
 
     /// Takes out one of the live shreds that end with the one of a number, where that one is live:
     /// one without live children.
     pub fn take_childless(&mut self, number: u64) -> Option<Shred>
-        ensures whether { is_some result ≡ is_some (live number self.old) }
+        ensures whether { is_some result ≡ is_some (numbered number self.old) }
         ensures ends { IfSome result (λ shred. EndsWith self.old number shred.number) }
         ensures live { IfSome result (λ shred. IsAmong self.old shred) }
         ensures childless { IfSome result (λ shred. child_of shred.number self.old ≡ None) }
@@ -105,7 +145,7 @@ impl Shreds {
 
     /// Takes out the live shred with a number.
     fn remove(&mut self, number: u64) -> Option<Shred>
-        ensures live { result ≡ live number self.old }
+        ensures live { result ≡ numbered number self.old }
         ensures older { IfSome result (λ shred. shred.parent < shred.number) }
         ensures without { self.new ≡ without number self.old }
     {

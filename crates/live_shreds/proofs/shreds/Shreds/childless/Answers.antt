@@ -1,4 +1,4 @@
-use Rattle.std.proofs.Common.{◌<◌, ◌^◌, rules, sym, subst, ap, ◌∙◌, arith, None, ◌≡◌}
+use Rattle.std.proofs.Common.{◌<◌, ◌^◌, rules, sym, subst, ap, ◌∙◌, arith}
 use Rattle.live_shreds.specs.Live.{EndsWith, Itself, Child, child_of}
 use Rattle.live_shreds.proofs.Tied.{first_child, no_child, none_by}
 use Rattle.std.specs.List.{IsAmong}

@@ -1,5 +1,5 @@
-use Rattle.std.proofs.Common.{sym, subst, ap, ◌∙◌, Some, None, ◌≡◌, ◌<◌}
-use Rattle.live_shreds.specs.Live.{live, without}
+use Rattle.std.proofs.Common.{sym, ap, ◌∙◌, ◌<◌}
+use Rattle.live_shreds.specs.Live.{numbered, without}
 use Rattle.live_shreds.proofs.Counts.{found_has}
 use Rattle.live_shreds.proofs.Entries.{lookup-live, all-older}
 use Rattle.live_shreds.proofs.Tied.{left, tied_left, tied_as, with_none}
@@ -15,7 +15,7 @@ pub returns-in_err-shred-clause-live : goal.returns-in_err-shred-clause-live
 returns-in_err-shred-clause-live c =
     c.from_residual.ensures ∙ sym c.in_err-shred.was ∙ c.remove.ensures.value
     ∙ lookup-live c.args.number c.self.inside.live.entries c.self.invariant.named
-    ∙ ap (live c.args.number) c.self.view_is
+    ∙ ap (numbered c.args.number) c.self.view_is
 
 pub returns-in_err-shred-clause-without : goal.returns-in_err-shred-clause-without
 returns-in_err-shred-clause-without c =
@@ -31,7 +31,7 @@ pub returns-clause-live : goal.returns-clause-live
 returns-clause-live c =
     sym c.in_ok-shred.was ∙ c.remove.ensures.value
     ∙ lookup-live c.args.number c.self.inside.live.entries c.self.invariant.named
-    ∙ ap (live c.args.number) c.self.view_is
+    ∙ ap (numbered c.args.number) c.self.view_is
 
 pub returns-clause-older : goal.returns-clause-older
 returns-clause-older c =

@@ -1,13 +1,12 @@
-use Rattle.std.proofs.Common.{◌≡◌, true, None, is_some, sym, ap, ◌∙◌, subst}
-use Rattle.std.specs.List.{IsAmong}
-use Rattle.live_shreds.specs.Live.{live, child_of, without, EndsWith}
+use Rattle.std.proofs.Common.{◌≡◌, true, None, is_some, sym, ap, ◌∙◌}
+use Rattle.live_shreds.specs.Live.{numbered, child_of, without, EndsWith}
 use Rattle.live_shreds.proofs.Tied.{ending_live, taken_has, taken_among, none_taken}
 use Rattle.live_shreds.proofs.shreds.Shreds.take_childless.Goals as goal
 
 pub returns-clause-whether : goal.returns-clause-whether
 returns-clause-whether c =
     let old = c.args.self.now in
-    let some : is_some (live c.args.number old) ≡ true = sym c.is_live.ensures ∙ c.if-not-is_live.false in
+    let some : is_some (numbered c.args.number old) ≡ true = sym c.is_live.ensures ∙ c.if-not-is_live.false in
     ap is_some c.remove.ensures.live
     ∙ ending_live c.args.number c.childless-number.result old c.childless-number.ensures.ends some
     ∙ sym some
@@ -34,7 +33,7 @@ returns-clause-taken c =
 pub returns-clause-same : goal.returns-clause-same
 returns-clause-same c =
     let old = c.args.self.now in
-    let some : is_some (live c.args.number old) ≡ true = sym c.is_live.ensures ∙ c.if-not-is_live.false in
+    let some : is_some (numbered c.args.number old) ≡ true = sym c.is_live.ensures ∙ c.if-not-is_live.false in
     none_taken _ c.remove.result
     (ap is_some c.remove.ensures.live
     ∙ ending_live c.args.number c.childless-number.result old c.childless-number.ensures.ends some)
