@@ -1,40 +1,19 @@
--- Shreds end one by one.
-use Rattle.std.proofs.Common.{◌≡◌, ℕ, zero, suc, ◌+◌, ◌<◌, ◌≤◌, Bool, true, false, cond, not, ◌||◌, ◌&&◌, nat_eq, nat_le, List, [], ◌∷◌, ◌++◌, map, filter, take, drop, get_or, length, slice_get, Option, Some, None, IfSome, ◌⊎◌, inl, inr, refl, sym, ap, ◌∙◌, subst, arith, append_assoc, append-nil}
-use Rattle.std.specs.List.{remove}
-use Rattle.std.proofs.lemmas.Bool.{eq-eqb, ne_eqb, eqb-true, le-leb, cases_eq}
-use Rattle.std.proofs.lemmas.Option.{slice_get_cases}
+-- Shreds end one by one: who has ended, and what is left.
+use Rattle.std.proofs.Common.{◌≡◌, ℕ, Bool, true, false, cond, not, ◌||◌, nat_eq, List, [], ◌∷◌, ◌++◌, filter, fold, Option, Some, None, inl, inr, refl, sym, ap, ◌∙◌}
+use Rattle.std.proofs.lemmas.Bool.{eq-eqb, ne_eqb, eqb-true, cases_eq}
 use Rattle.ugen_sample.specs.Connection.{Connection}
 use Rattle.ugen_sample.specs.declared.unit.UnitState.{UnitState}
 use Rattle.ugen_sample.specs.UnitState.{Units, unit_at}
 use Rattle.ugen_graph.specs.Links as links
-use Rattle.ck_code.specs.declared.code.CodeParts.{CodeParts}
 use Rattle.ck_store.specs.Store.{Store}
 use Rattle.ck_store.specs.Steps.{pick}
 use Rattle.ck_meaning.specs.Replay.{Stopped}
-use Rattle.ck_run.specs.Run.{Shred, Due, Wait, Run, has, end_with, ended, is_made_by, touches}
-use Rattle.ck_run.specs.Family.{AreInOrder, AreParented, IsFamily}
-use Rattle.ck_run.proofs.Family.{Parts, no_parts, goes, stays, staying, gone_after, others_stay, has-push, parent-low, order-weaker}
-use Rattle.shred_state.specs.Frames.{Standing}
+use Rattle.ck_run.specs.Run.{Shred, Due, Wait, Run, has, one_more_ends, end_with, without, is_made_by, touches}
+use Rattle.ck_run.specs.Family.{IsFamily}
+use Rattle.ck_run.proofs.Family.{has-push, ends_those}
 use Rattle.machine_world.specs.Units.{detached}
 use Rattle.machine_world.specs.Units as made
-use Rattle.machine_world.specs.Worlds.{StandsFor}
-use Rattle.chuck_vm.specs.declared.machine.Machine.{Machine}
-use Rattle.chuck_vm.specs.Machine.{shred_of, shreds_of, due_of, wait_of, numbers, ends_behind, AreDueAlike, WaitAlike, Stands}
-use Rattle.chuck_vm.proofs.Lists.{map-push, got, split_at, take_one, take_removed, drop_removed, take_all, drop_all}
-
--- the numbers of shreds of a run
-abbrev pub run_numbers : List (Shred Stopped) → List ℕ
-run_numbers shreds = map (λ (s : Shred Stopped). s.number) shreds
-
-same_numbers : (code : CodeParts) (shreds : List Standing) → run_numbers (shreds_of code shreds)
-    ≡ numbers shreds
-same_numbers code [] = refl
-same_numbers code (s ∷ shreds) = ap (λ r. s.number ∷ r) (same_numbers code shreds)
-
--- what the machine tests
-abbrev pub test : (n : ℕ) → (stayed : List ℕ) → Shred Stopped → Bool
-test n stayed s =
-    nat_eq s.number n || (not (nat_eq s.parent 0) && (nat_le n s.parent && not (has stayed s.parent)))
+use Rattle.chuck_vm.proofs.Among.{Among, all_at}
 
 abbrev pub dues_but : ℕ → List Due → List Due
 dues_but n dues = filter (λ d. not (nat_eq d.shred n)) dues
@@ -48,23 +27,7 @@ cut gone store = record store {
   connections = filter (λ c. not (touches store.units gone c)) store.connections;
 }
 
--- who ends with a shred, those before having been looked at
-pub record Ending (n below : ℕ) (start : Run Stopped) (kept rest : List (Shred Stopped)) (dues : List Due)
-    (waiting : List Wait) (store : Store) : Type 0 where
-  pub from : ℕ
-  pub seen : List ℕ
-  pub gone : List ℕ
-  pub gone_is : end_with n start.shreds ≡ gone_after n gone rest
-  pub stay : staying n [] start.shreds ≡ kept ++ staying n gone rest
-  pub parts : Parts from seen (run_numbers kept) gone
-  pub not_below : (m : ℕ) → has gone m ≡ true → n ≤ m
-  pub order : AreInOrder from below rest
-  pub parents : AreParented seen rest
-  pub dues_are : dues ≡ filter (λ (d : Due). not (has gone d.shred)) start.due
-  pub waiting_are : waiting ≡ filter (λ (w : Wait). not (has gone w.shred)) start.waits
-  pub store_is : store ≡ cut gone start.store
-
-filter-all : {A : Type 0} (f : A → ℕ) (xs : List A) → xs ≡ filter (λ x. not (has [] (f x))) xs
+pub filter-all : {A : Type 0} (f : A → ℕ) (xs : List A) → xs ≡ filter (λ x. not (has [] (f x))) xs
 filter-all f [] = refl
 filter-all f (x ∷ xs) = ap (λ r. x ∷ r) (filter-all f xs)
 
@@ -73,7 +36,7 @@ none_made : (o : Option UnitState) → is_made_by [] o ≡ false
 none_made None = refl
 none_made (Some unit) = refl
 
-none_touched : (units : Units) (cs : List Connection)
+pub none_touched : (units : Units) (cs : List Connection)
     → cs ≡ filter (λ c. not (touches units [] c)) cs
 none_touched units [] = refl
 none_touched units (c ∷ cs) =
@@ -83,24 +46,6 @@ none_touched units (c ∷ cs) =
     let rest = filter (λ c. not (touches units [] c)) cs in
     ap (λ r. c ∷ r) (none_touched units cs)
     ∙ sym (ap (λ b. cond (not b) (c ∷ rest) rest) none)
-
-pub none_ended : (n below : ℕ) (start : Run Stopped) → IsFamily below start.shreds
-    → Ending n below start [] start.shreds start.due start.waits start.store
-none_ended n below start family = record {
-  from = 1;
-  seen = [];
-  gone = [];
-  gone_is = refl;
-  stay = refl;
-  parts = no_parts;
-  not_below = λ m is. absurd (cc is);
-  order = family.order;
-  parents = family.parents;
-  dues_are = filter-all (λ (d : Due). d.shred) start.due;
-  waiting_are = filter-all (λ (w : Wait). w.shred) start.waits;
-  store_is = ap (λ cs. record start.store { connections = cs })
-      (none_touched start.store.units start.store.connections);
-}
 
 -- two filters, one after another
 filter-two : {A : Type 0} (p q r : A → Bool) → ((x : A) → (p x || q x) ≡ r x) → (xs : List A)
@@ -135,7 +80,7 @@ pushed gone m k =
           ∙ sym (ne_eqb b a (λ e. ne (sym e)))
     ]
 
-filter-more : {A : Type 0} (f : A → ℕ) (gone : List ℕ) (m : ℕ) (xs : List A)
+pub filter-more : {A : Type 0} (f : A → ℕ) (gone : List ℕ) (m : ℕ) (xs : List A)
     → filter (λ x. not (nat_eq (f x) m)) (filter (λ x. not (has gone (f x))) xs)
     ≡ filter (λ x. not (has (gone ++ m ∷ []) (f x))) xs
 filter-more f gone m xs =
@@ -164,279 +109,180 @@ touched_more units gone m c =
     ∙ ap (λ b. is_made_by (gone ++ m ∷ []) from || b) (made_more gone m to)
 
 -- its connections are taken out too
-cut_more : (gone : List ℕ) (m : ℕ) (store : Store)
+pub cut_more : (gone : List ℕ) (m : ℕ) (store : Store)
     → detached m (cut gone store) ≡ cut (gone ++ m ∷ []) store
 cut_more gone m store =
     ap (λ cs. record store { connections = cs })
     (filter-two (touches store.units gone) (made.touches store.units m)
     (touches store.units (gone ++ m ∷ [])) (touched_more store.units gone m) store.connections)
 
--- it is what the definition asks
-tested : (n from : ℕ) (seen kept gone : List ℕ) (s : Shred Stopped) → Parts from seen kept gone
-    → ((m : ℕ) → has gone m ≡ true → n ≤ m)
-    → ((s.parent ≡ 0) ⊎ (has seen s.parent ≡ true)) → test n kept s ≡ (nat_eq s.number n || has gone s.parent)
-tested n from seen kept gone s parts not_below parent = ap (λ b. nat_eq s.number n || b) (by s.parent parent)
+-- the same have ended
+filter_same : {A : Type 0} (p q : A → Bool) → ((x : A) → p x ≡ q x) → (xs : List A)
+    → filter (λ x. not (p x)) xs ≡ filter (λ x. not (q x)) xs
+filter_same p q same [] = refl
+filter_same p q same (x ∷ xs) =
+    ap (λ b. cond (not b) (x ∷ filter (λ x. not (p x)) xs) (filter (λ x. not (p x)) xs)) (same x)
+    ∙ ap (λ ys. cond (not (q x)) (x ∷ ys) ys) (filter_same p q same xs)
+
+made_same : (a b : List ℕ) → ((m : ℕ) → has a m ≡ has b m) → (o : Option UnitState)
+    → is_made_by a o ≡ is_made_by b o
+made_same a b same None = refl
+made_same a b same (Some unit) = same unit.maker
+
+touched_same : (units : Units) (a b : List ℕ) → ((m : ℕ) → has a m ≡ has b m) → (c : Connection)
+    → touches units a c ≡ touches units b c
+touched_same units a b same c =
+    ap (λ t. t || is_made_by a (unit_at units c.to)) (made_same a b same (unit_at units c.from))
+    ∙ ap (λ t. is_made_by b (unit_at units c.from) || t) (made_same a b same (unit_at units c.to))
+
+pub same_gone : (run : Run Stopped) (a b : List ℕ) → ((m : ℕ) → has a m ≡ has b m)
+    → without run a ≡ without run b
+same_gone run a b same =
+    let one = without run a in
+    let two = without run b in
+    ap (λ ss. record one { shreds = ss })
+    (filter_same (λ (s : Shred Stopped). has a s.number) (λ s. has b s.number) (λ s. same s.number) run.shreds)
+    ∙ ap (λ ds. record one { shreds = two.shreds; due = ds })
+    (filter_same (λ (d : Due). has a d.shred) (λ d. has b d.shred) (λ d. same d.shred) run.due)
+    ∙ ap (λ ws. record one { shreds = two.shreds; due = two.due; waits = ws })
+    (filter_same (λ (w : Wait). has a w.shred) (λ w. has b w.shred) (λ w. same w.shred) run.waits)
+    ∙ ap (λ cs. record two { store = record run.store { connections = cs } })
+    (filter_same (touches run.store.units a) (touches run.store.units b)
+    (touched_same run.store.units a b same) run.store.connections)
+
+-- nobody has ended yet
+pub none_gone : (run : Run Stopped) → run ≡ without run []
+none_gone run =
+    let none = without run [] in
+    ap (λ ss. record run { shreds = ss }) (filter-all (λ (s : Shred Stopped). s.number) run.shreds)
+    ∙ ap (λ ds. record run { shreds = none.shreds; due = ds }) (filter-all (λ (d : Due). d.shred) run.due)
+    ∙ ap (λ ws. record run { shreds = none.shreds; due = none.due; waits = ws })
+    (filter-all (λ (w : Wait). w.shred) run.waits)
+    ∙ ap (λ cs. record none { store = record run.store { connections = cs } })
+    (none_touched run.store.units run.store.connections)
+
+-- those that end are the least that hold the shred and the children of each of theirs
+covered : (n : ℕ) (S : ℕ → Bool) (shreds : List (Shred Stopped)) (gone : List ℕ)
+    → ((m : ℕ) → has gone m ≡ true → S m ≡ true)
+    → ((s : Shred Stopped) → Among shreds s → s.number ≡ n → S s.number ≡ true)
+    → ((s : Shred Stopped) → Among shreds s → S s.parent ≡ true → S s.number ≡ true) → (m : ℕ)
+    → has (fold (one_more_ends n) gone shreds) m ≡ true → S m ≡ true
+covered n S [] gone so_far itself children m is = so_far m is
+covered n S (s ∷ shreds) gone so_far itself children m is =
+    covered n S shreds (one_more_ends n gone s)
+    (next (nat_eq s.number n) refl (has gone s.parent) refl)
+    (λ t among. itself t (inr among)) (λ t among. children t (inr among)) m is
   where
-    by_has : (b c : Bool) (p : ℕ) → has kept p ≡ b → (b || has gone p) ≡ true → nat_le n p ≡ c
-        → (c && not b) ≡ has gone p
-    by_has true true p is all le = sym (parts.apart p is)
-    by_has true false p is all le = sym (parts.apart p is)
-    by_has false true p is all le = sym all
-    by_has false false p is all le = absurd (cc (le, le-leb n p (not_below p all)))
+    more : S s.number ≡ true → (k : ℕ) → has (gone ++ s.number ∷ []) k ≡ true → S k ≡ true
+    more it k is = by (has gone k) refl (sym (has-push gone s.number k) ∙ is)
+      where
+        by : (b : Bool) → has gone k ≡ b → (b || nat_eq s.number k) ≡ true → S k ≡ true
+        by true e h = so_far k e
+        by false e h = ap S (sym (eqb-true s.number k h)) ∙ it
 
-    by : (p : ℕ) → ((p ≡ 0) ⊎ (has seen p ≡ true)) → (not (nat_eq p 0) && (nat_le n p && not (has kept p)))
-        ≡ has gone p
-    by p (inl e) = ap (λ c. not c && (nat_le n p && not (has kept p))) (eq-eqb p 0 e)
-        ∙ sym (ap (has gone) e ∙ parts.zero_gone)
-    by p (inr is) = elim (cases_eq p 0) [
-      | inl e ↦ ap (λ c. not c && (nat_le n p && not (has kept p))) (eq-eqb p 0 e)
-          ∙ sym (ap (has gone) e ∙ parts.zero_gone)
-      | inr ne ↦ ap (λ c. not c && (nat_le n p && not (has kept p))) (ne_eqb p 0 ne)
-          ∙ by_has (has kept p) (nat_le n p) p refl (sym (parts.both p) ∙ is) refl
-    ]
+    next : (b : Bool) → nat_eq s.number n ≡ b → (c : Bool) → has gone s.parent ≡ c → (k : ℕ)
+        → has (pick (b || c) (gone ++ s.number ∷ []) gone) k ≡ true → S k ≡ true
+    next true e c h k is = more (itself s (inl refl) (eqb-true s.number n e)) k is
+    next false e true h k is = more (children s (inl refl) (so_far s.parent h)) k is
+    next false e false h k is = so_far k is
 
--- who ends has no lower number
-below_push : (n k : ℕ) (gone : List ℕ) → ((m : ℕ) → has gone m ≡ true → n ≤ m) → n ≤ k → (m : ℕ)
-    → has (gone ++ k ∷ []) m ≡ true → n ≤ m
-below_push n k gone not_below le m is = by (has gone m) refl (sym (has-push gone k m) ∙ is)
-  where
-    by : (b : Bool) → has gone m ≡ b → (b || nat_eq k m) ≡ true → n ≤ m
-    by true e h = not_below m e
-    by false e h = omega (arith, le, eqb-true k m h)
+same_truth : (a b : Bool) → (a ≡ true → b ≡ true) → (b ≡ true → a ≡ true) → a ≡ b
+same_truth true b to back = sym (to refl)
+same_truth false true to back = back refl
+same_truth false false to back = refl
 
-module _ (n below : ℕ) (start : Run Stopped) (kept rest : List (Shred Stopped)) (s : Shred Stopped)
-    (dues : List Due) (waiting : List Wait) (store : Store)
-    (ending : Ending n below start kept (s ∷ rest) dues waiting store) where
-  abbrev b : Bool
-  b = nat_eq s.number n || has ending.gone s.parent
+module _ (n next : ℕ) (start : List (Shred Stopped)) (family : IsFamily next start) where
+  abbrev ends : ℕ → Bool
+  ends = has (end_with n start)
 
-  pub test_is : test n (run_numbers kept) s ≡ b
-  test_is = tested n ending.from ending.seen (run_numbers kept) ending.gone s ending.parts ending.not_below
-      ending.parents.0
+  those : (s : Shred Stopped) → Among start s → ends s.number ≡ (nat_eq s.number n || ends s.parent)
+  those s among =
+      all_at (λ (s : Shred Stopped). ends s.number ≡ (nat_eq s.number n || ends s.parent)) start s
+      (ends_those n next start family).1 among
 
-  from_one : (c : Bool) → nat_eq s.number n ≡ c → (c || has ending.gone s.parent) ≡ true → n ≤ s.number
-  from_one true e is = omega (arith, eqb-true s.number n e)
-  from_one false e is =
-      let lt = parent-low ending.from ending.seen (run_numbers kept) ending.gone s.parent ending.parts
-      ending.parents.0 in
-      omega (arith, ending.not_below s.parent is, lt, ending.order.0)
+  -- the shred ends, and the children of those that end
+  pub itself_ends : (s : Shred Stopped) → Among start s → s.number ≡ n → ends s.number ≡ true
+  itself_ends s among is = those s among ∙ ap (λ b. b || ends s.parent) (eq-eqb s.number n is)
 
-  -- one more ends
-  pub one_ends : test n (run_numbers kept) s ≡ true
-      → Ending n below start kept rest (dues_but s.number dues) (waits_but s.number waiting)
-      (detached s.number store)
-  one_ends is =
-      let e : b ≡ true = sym test_is ∙ is in
-      record {
-        from = suc s.number;
-        seen = ending.seen ++ s.number ∷ [];
-        gone = ending.gone ++ s.number ∷ [];
-        gone_is = ending.gone_is
-            ∙ ap (λ c. gone_after n (pick c (ending.gone ++ s.number ∷ []) ending.gone) rest) e;
-        stay = ending.stay
-            ∙ ap (λ c. kept
-            ++ pick c (staying n (ending.gone ++ s.number ∷ []) rest) (s ∷ staying n ending.gone rest)) e;
-        parts = goes ending.parts s.number ending.order.0;
-        not_below = below_push n s.number ending.gone ending.not_below (from_one (nat_eq s.number n) refl e);
-        order = ending.order.2;
-        parents = ending.parents.1;
-        dues_are = ap (dues_but s.number) ending.dues_are
-            ∙ filter-more (λ (d : Due). d.shred) ending.gone s.number start.due;
-        waiting_are = ap (waits_but s.number) ending.waiting_are
-            ∙ filter-more (λ (w : Wait). w.shred) ending.gone s.number start.waits;
-        store_is = ap (detached s.number) ending.store_is ∙ cut_more ending.gone s.number start.store;
-      }
-
-  -- one more stays
-  pub one_stays : test n (run_numbers kept) s ≡ false
-      → Ending n below start (kept ++ s ∷ []) rest dues waiting store
-  one_stays is =
-      let e : b ≡ false = sym test_is ∙ is in
-      record {
-        from = suc s.number;
-        seen = ending.seen ++ s.number ∷ [];
-        gone = ending.gone;
-        gone_is = ending.gone_is
-            ∙ ap (λ c. gone_after n (pick c (ending.gone ++ s.number ∷ []) ending.gone) rest) e;
-        stay = ending.stay
-            ∙ ap (λ c. kept
-            ++ pick c (staying n (ending.gone ++ s.number ∷ []) rest) (s ∷ staying n ending.gone rest)) e
-            ∙ sym (append_assoc kept (s ∷ []) (staying n ending.gone rest));
-        parts = subst (λ ks. Parts (suc s.number) (ending.seen ++ s.number ∷ []) ks ending.gone)
-            (sym (map-push (λ (s : Shred Stopped). s.number) kept s))
-            (stays ending.parts s.number ending.order.0);
-        not_below = ending.not_below;
-        order = ending.order.2;
-        parents = ending.parents.1;
-        dues_are = ending.dues_are;
-        waiting_are = ending.waiting_are;
-        store_is = ending.store_is;
-      }
-
--- all have been looked at
-pub all_ended : (n below : ℕ) (start : Run Stopped) (kept : List (Shred Stopped)) (dues : List Due)
-    (waiting : List Wait) (store : Store) → IsFamily below start.shreds
-    → Ending n below start kept [] dues waiting store
-    → record start { shreds = kept; due = dues; waits = waiting; store = store } ≡ ended start n
-all_ended n below start kept dues waiting store family ending =
-    let gone_all : end_with n start.shreds ≡ ending.gone = ending.gone_is in
-    let kept_is : kept ≡ filter (λ (s : Shred Stopped). not (has (end_with n start.shreds) s.number))
-    start.shreds =
-    sym (ending.stay ∙ append-nil kept)
-    ∙ sym (others_stay n below start.shreds 1 [] (λ m le. refl) family.order) in
-    let dues_is : dues ≡ filter (λ (d : Due). not (has (end_with n start.shreds) d.shred)) start.due =
-    ending.dues_are ∙ ap (λ gone. filter (λ (d : Due). not (has gone d.shred)) start.due) (sym gone_all) in
-    let waits_is : waiting ≡ filter (λ (w : Wait). not (has (end_with n start.shreds) w.shred)) start.waits =
-    ending.waiting_are
-    ∙ ap (λ gone. filter (λ (w : Wait). not (has gone w.shred)) start.waits) (sym gone_all) in
-    let store_is : store ≡ cut (end_with n start.shreds) start.store =
-    ending.store_is ∙ ap (λ gone. cut gone start.store) (sym gone_all) in
-    let e = ended start n in
-    ap (λ s. record start { shreds = s; due = dues; waits = waiting; store = store }) kept_is
-    ∙ ap (λ d. record start { shreds = e.shreds; due = d; waits = waiting; store = store }) dues_is
-    ∙ ap (λ w. record start { shreds = e.shreds; due = e.due; waits = w; store = store }) waits_is
-    ∙ ap (λ s. record start { shreds = e.shreds; due = e.due; waits = e.waits; store = s }) store_is
-
--- the order of those who are left
-pub order_removed : (shreds : List (Shred Stopped)) (from below i : ℕ) → AreInOrder from below shreds
-    → AreInOrder from below (remove shreds i)
-order_removed [] from below zero order = order
-order_removed [] from below (suc i) order = order
-order_removed (s ∷ shreds) from below zero order =
-    order-weaker 0 below shreds (suc s.number) from (omega (arith, order.0)) order.2
-order_removed (s ∷ shreds) from below (suc i) order =
-    (order.0, order.1, order_removed shreds (suc s.number) below i order.2)
-
-shreds_removed : (code : CodeParts) (shreds : List Standing) (i : ℕ) → shreds_of code (remove shreds i)
-    ≡ remove (shreds_of code shreds) i
-shreds_removed code [] zero = refl
-shreds_removed code [] (suc i) = refl
-shreds_removed code (s ∷ shreds) zero = refl
-shreds_removed code (s ∷ shreds) (suc i) = ap (λ r. shred_of code s ∷ r) (shreds_removed code shreds i)
-
-pub left_in_order : (code : CodeParts) (shreds shreds2 : List Standing) (from below i : ℕ)
-    → shreds2 ≡ remove shreds i → AreInOrder from below (shreds_of code shreds)
-    → AreInOrder from below (shreds_of code shreds2)
-left_in_order code shreds shreds2 from below i is order =
-    subst (AreInOrder from below) (sym (ap (shreds_of code) is ∙ shreds_removed code shreds i))
-    (order_removed (shreds_of code shreds) from below i order)
-
-module _ (code : CodeParts) (n below : ℕ) (start : Run Stopped) (items : List Standing) (at : ℕ)
-    (dues : List Due) (waiting : List Wait) (store : Store) (ends : Bool) (lt : at < length items)
-    (tests : IfSome (slice_get items at) (λ s. ends ≡ ends_behind n (numbers (take at items)) s))
-    (ending : Ending n below start (shreds_of code (take at items)) (shreds_of code (drop at items)) dues
-    waiting store) where
-  says : (s : Standing) → slice_get items at ≡ Some s
-      → ends ≡ test n (run_numbers (shreds_of code (take at items))) (shred_of code s)
-  says s found =
-      let P : Option Standing
-      → Type 0 = λ o. IfSome o (λ s. ends ≡ ends_behind n (numbers (take at items)) s) in
-      subst P found tests ∙ sym (ap (λ ns. test n ns (shred_of code s)) (same_numbers code (take at items)))
-
-  here : (s : Standing) → s ≡ get_or items at s
-      → Ending n below start (shreds_of code (take at items))
-      (shred_of code s ∷ shreds_of code (drop (suc at) items)) dues waiting store
-  here s is = let R : List Standing
-      → Type 0 = λ rest. Ending n below start (shreds_of code (take at items)) (shreds_of code rest) dues
-      waiting store in subst R (split_at items at s lt is) ending
-
-  -- the step of the machine's loop, where the shred at a place ends
-  pub end_step : (items2 : List Standing) (s : Standing) (dues2 : List Due) (waiting2 : List Wait)
-      (store2 : Store) → s ≡ get_or items at s → items2 ≡ remove items at → ends ≡ true
-      → dues2 ≡ dues_but s.number dues → waiting2 ≡ waits_but s.number waiting
-      → store2 ≡ detached s.number store
-      → Ending n below start (shreds_of code (take at items2)) (shreds_of code (drop at items2)) dues2
-      waiting2 store2
-  end_step items2 s dues2 waiting2 store2 is removed yes_ends dues_is waiting_is store_is =
-      let next = one_ends n below start (shreds_of code (take at items))
-      (shreds_of code (drop (suc at) items)) (shred_of code s) dues waiting store (here s is)
-      (sym (says s (got items at s lt is)) ∙ yes_ends) in
-      let A : List Standing → Type 0 = λ front. Ending n below start (shreds_of code front)
-      (shreds_of code (drop (suc at) items)) dues2 waiting2 store2 in
-      let B : List Standing → Type 0 = λ back. Ending n below start (shreds_of code (take at items2))
-      (shreds_of code back) dues2 waiting2 store2 in
-      let D : List Due → Type 0 = λ ds. Ending n below start (shreds_of code (take at items))
-      (shreds_of code (drop (suc at) items)) ds waiting2 store2 in
-      let W : List Wait → Type 0 = λ ws. Ending n below start (shreds_of code (take at items))
-      (shreds_of code (drop (suc at) items)) (dues_but s.number dues) ws store2 in
-      let S : Store → Type 0 = λ st. Ending n below start (shreds_of code (take at items))
-      (shreds_of code (drop (suc at) items)) (dues_but s.number dues) (waits_but s.number waiting) st in
-      subst B (sym (ap (drop at) removed ∙ drop_removed items at (drop (suc at) items) (omega (arith, lt))))
-      (subst A (sym (ap (take at) removed ∙ take_removed items at (drop (suc at) items) (omega (arith, lt))))
-      (subst D (sym dues_is) (subst W (sym waiting_is) (subst S (sym store_is) next))))
-
-  -- and where it stays
-  pub stay_step : ends ≡ false
-      → Ending n below start (shreds_of code (take (at + 1) items)) (shreds_of code (drop (at + 1) items)) dues
-      waiting store
-  stay_step no_end = elim ((slice_get_cases items at).1) [
-    | inl h ↦ by h.0 (sym h.3) h.2
-    | inr h ↦ absurd (omega (arith, lt, h.0))
-  ]
+  pub child_ends : (s : Shred Stopped) → Among start s → ends s.parent ≡ true → ends s.number ≡ true
+  child_ends s among is = those s among ∙ ap (λ b. nat_eq s.number n || b) is ∙ by (nat_eq s.number n)
     where
-      by : (s : Standing) → s ≡ get_or items at s → slice_get items at ≡ Some s
-          → Ending n below start (shreds_of code (take (at + 1) items)) (shreds_of code (drop (at + 1) items))
-          dues waiting store
-      by s is found =
-          let next =
-          one_stays n below start (shreds_of code (take at items)) (shreds_of code (drop (suc at) items))
-          (shred_of code s) dues waiting store (here s is) (sym (says s found) ∙ no_end) in
-          let K : List (Shred Stopped)
-          → Type 0 =
-          λ kept. Ending n below start kept (shreds_of code (drop (suc at) items)) dues waiting store in
-          let M : ℕ
-          → Type 0 =
-          λ k. Ending n below start (shreds_of code (take k items)) (shreds_of code (drop k items)) dues
-          waiting store in
-          let k : suc at ≡ at + 1 = omega arith in
-          subst M k
-          (subst K (sym (ap (shreds_of code) (take_one items at s lt is)
-          ∙ map-push (shred_of code) (take at items) s)) next)
+      by : (b : Bool) → (b || true) ≡ true
+      by true = refl
+      by false = refl
 
--- the machine is on its way from a run that it stood for: of the shreds before a place those have
--- stayed that don't end
-pub record EndsBefore (code : CodeParts) (n below at : ℕ) (start : Run Stopped) (now : Machine) : Type 0 where
-  pub dues : List Due
-  pub waiting : List Wait
-  pub store : Store
-  pub ending : Ending n below start (shreds_of code (take at now.shreds.items))
-      (shreds_of code (drop at now.shreds.items)) dues waiting store
-  pub due : AreDueAlike (map due_of now.due) dues
-  pub waits : WaitAlike (map wait_of now.waits) waiting
-  pub world : StandsFor now.world store
+  -- and so does the parent of another that ends
+  pub parent_ends : (s : Shred Stopped) → Among start s → (s.number ≡ n → ⊥) → ends s.number ≡ true
+      → ends s.parent ≡ true
+  parent_ends s among other is =
+      ap (λ b. b || ends s.parent) (sym (ne_eqb s.number n other)) ∙ sym (those s among) ∙ is
 
-pub none_yet : (n below : ℕ) (start : Run Stopped) (machine : Machine) → Stands machine start
-    → IsFamily below start.shreds → EndsBefore machine.code n below 0 start machine
-none_yet n below start machine stands family =
-    let E : List (Shred Stopped) → Type 0 =
-    λ rest. Ending n below start [] rest start.due start.waits start.store in
-    record {
-      dues = start.due;
-      waiting = start.waits;
-      store = start.store;
-      ending = subst E (sym stands.shreds) (none_ended n below start family);
-      due = stands.due;
-      waits = stands.waits;
-      world = stands.store;
-    }
+  -- who ends is there
+  pub end_there : (m : ℕ) → ends m ≡ true → (s : Shred Stopped) × Among start s × (s.number ≡ m)
+  end_there m is =
+      numbered start m (covered n (has (numbers start)) start [] (λ k none. absurd (cc none))
+      (λ s among e. among_number start s among) (λ s among up. among_number start s among) m is)
+    where
+      numbers : List (Shred Stopped) → List ℕ
+      numbers [] = []
+      numbers (s ∷ shreds) = s.number ∷ numbers shreds
 
--- the whole loop
-pub ended_all : (n below at : ℕ) (start : Run Stopped) (old new : Machine) → IsFamily below start.shreds
-    → new.code ≡ old.code → length new.shreds.items ≤ at → EndsBefore old.code n below at start new
-    → Stands new (ended start n)
-ended_all n below at start old new family same_code past so_far =
-    let items = new.shreds.items in
-    let waiting = so_far.waiting in
-    let R : List Standing → Type 0 = λ rest. Ending n below start (shreds_of old.code (take at items))
-    (shreds_of old.code rest) so_far.dues waiting so_far.store in
-    let K : List Standing → Type 0 = λ kept. Ending n below start (shreds_of old.code kept) [] so_far.dues
-    waiting so_far.store in
-    let over = subst K (take_all items at past) (subst R (drop_all items at past) so_far.ending) in
-    subst (Stands new)
-    (all_ended n below start (shreds_of old.code items) so_far.dues waiting so_far.store family over)
-    (record {
-      store = so_far.world;
-      shreds = ap (λ code. shreds_of code items) same_code;
-      due = so_far.due;
-      waits = so_far.waits;
-    })
+      among_number : (shreds : List (Shred Stopped)) (s : Shred Stopped) → Among shreds s
+          → has (numbers shreds) s.number ≡ true
+      among_number [] s is = absurd is
+      among_number (t ∷ shreds) s (inl is) =
+          ap (λ b. b || has (numbers shreds) s.number)
+          (eq-eqb t.number s.number (ap (λ (s : Shred Stopped). s.number) (sym is)))
+      among_number (t ∷ shreds) s (inr more) = by (nat_eq t.number s.number) (among_number shreds s more)
+        where
+          by : (b : Bool) → has (numbers shreds) s.number ≡ true → (b || has (numbers shreds) s.number) ≡ true
+          by true h = refl
+          by false h = h
+
+      numbered : (shreds : List (Shred Stopped)) (m : ℕ) → has (numbers shreds) m ≡ true
+          → (s : Shred Stopped) × Among shreds s × (s.number ≡ m)
+      numbered [] m is = absurd (cc is)
+      numbered (s ∷ shreds) m is = by (nat_eq s.number m) refl is (numbered shreds m)
+        where
+          by : (b : Bool) → nat_eq s.number m ≡ b → (b || has (numbers shreds) m) ≡ true
+              → (has (numbers shreds) m ≡ true → (t : Shred Stopped) × Among shreds t × (t.number ≡ m))
+              → (t : Shred Stopped) × Among (s ∷ shreds) t × (t.number ≡ m)
+          by true e h ih = (s, inl refl, eqb-true s.number m e)
+          by false e h ih = let more = ih h in (more.0, inr more.1, more.2)
+
+  -- these have ended: some that end, and with each its children
+  pub record AreGone (gone : List ℕ) : Type 0 where
+    pub within : (m : ℕ) → has gone m ≡ true → ends m ≡ true
+    pub closed : (s : Shred Stopped) → Among start s → has gone s.parent ≡ true → has gone s.number ≡ true
+
+  pub none_are_gone : AreGone []
+  none_are_gone = record { within = λ m is. absurd (cc is); closed = λ s among is. absurd (cc is) }
+
+  -- one more
+  pub one_more : (gone : List ℕ) (s : Shred Stopped) → AreGone gone → ends s.number ≡ true
+      → ((t : Shred Stopped) → Among start t → t.parent ≡ s.number → has gone t.number ≡ true)
+      → AreGone (gone ++ s.number ∷ [])
+  one_more gone s are it children = record {
+    within = λ m is. within m (has gone m) refl (sym (has-push gone s.number m) ∙ is);
+    closed = λ t among is.
+        has-push gone s.number t.number
+        ∙ ap (λ b. b || nat_eq s.number t.number)
+        (closed t among (has gone t.parent) refl (sym (has-push gone s.number t.parent) ∙ is));
+  }
+    where
+      within : (m : ℕ) (b : Bool) → has gone m ≡ b → (b || nat_eq s.number m) ≡ true → ends m ≡ true
+      within m true e is = are.within m e
+      within m false e is = ap ends (sym (eqb-true s.number m is)) ∙ it
+
+      closed : (t : Shred Stopped) → Among start t → (b : Bool) → has gone t.parent ≡ b
+          → (b || nat_eq s.number t.parent) ≡ true → has gone t.number ≡ true
+      closed t among true e is = are.closed t among e
+      closed t among false e is = children t among (sym (eqb-true s.number t.parent is))
+
+  -- all have ended once the shred has, where there is one
+  pub all_gone : (gone : List ℕ) → AreGone gone
+      → ((s : Shred Stopped) → Among start s → s.number ≡ n → has gone s.number ≡ true) → (m : ℕ)
+      → has gone m ≡ ends m
+  all_gone gone are itself m =
+      same_truth (has gone m) (ends m) (are.within m)
+      (covered n (has gone) start [] (λ k none. absurd (cc none)) itself are.closed m)

@@ -2,8 +2,10 @@ pub mod Lists
 pub mod Queues
 pub mod Dues
 pub mod Positions
+pub mod Among
 pub mod Ends
 pub mod Stands
+pub mod Ending
 pub mod Orders
 pub mod Beginning
 pub mod Counting

@@ -134,7 +134,7 @@ module _ (code : CodeParts) (names : List (List ℕ)) where
       (all (at n) stands (can_at n machine same ready) (bound n) ready.enough)
 
   -- a machine that has made a sample more stands for the run that has
-  pub sampled_stands : (n : ℕ) (old new : Machine) → new.code ≡ old.code → new.shreds.items ≡ old.shreds.items
+  pub sampled_stands : (n : ℕ) (old new : Machine) → new.code ≡ old.code → new.shreds ≡ old.shreds
       → new.due ≡ old.due → new.waits ≡ old.waits
       → ((store : Store) → StandsFor old.world store → StandsFor new.world (after_sample cod store))
       → Stands old (next n) → Stands new (at (suc n))
@@ -143,7 +143,7 @@ module _ (code : CodeParts) (names : List (List ℕ)) where
       let run = at n in
       let here : Stands new (sampled cod q) = record {
         store = world q.store stands.store;
-        shreds = ap (shreds_of new.code) shreds ∙ ap (λ code. shreds_of code old.shreds.items) same ∙ stands.shreds;
+        shreds = ap (shreds_of new.code) shreds ∙ ap (λ code. shreds_of code old.shreds) same ∙ stands.shreds;
         due = joined_due (map due_of new.due) (map due_of old.due) q.due
             (same_due (map due_of new.due) (map due_of old.due) (ap (map due_of) due)) stands.due;
         waits = joined_waits (map wait_of new.waits) (map wait_of old.waits) q.waits

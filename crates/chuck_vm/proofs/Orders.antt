@@ -72,8 +72,8 @@ wait_stands machine run event n waits pushed stands =
 -- a child that was begun
 pub child_stands : (old new : Machine) (run : Run Stopped) (parent number : ℕ) (p : Stopped)
     → new.world ≡ old.world → new.waits ≡ old.waits
-    → shreds_of new.code new.shreds.items
-    ≡ shreds_of old.code old.shreds.items ++ record { number = number; parent = parent; progress = p } ∷ []
+    → shreds_of new.code new.shreds
+    ≡ shreds_of old.code old.shreds ++ record { number = number; parent = parent; progress = p } ∷ []
     → AreDueAlike (map due_of new.due) (map due_of old.due ++ record { time = run.store.now; shred = number } ∷ [])
     → is_some (live run parent) ≡ true → Stands old run
     → Stands new (with_child run parent number p (live run parent))
@@ -88,12 +88,6 @@ child_stands old new run parent number p world waits are pushed some stands =
       waits = joined_waits (map wait_of new.waits) (map wait_of old.waits) run.waits
           (same_waits (map wait_of new.waits) (map wait_of old.waits) (ap (map wait_of) waits)) stands.waits;
     })
-
-pub no_child : (machine : Machine) (run : Run Stopped) (parent number : ℕ) (p : Stopped)
-    → is_some (live run parent) ≡ false → Stands machine run
-    → Stands machine (with_child run parent number p (live run parent))
-no_child machine run parent number p none stands =
-    subst (λ o. Stands machine (with_child run parent number p o)) (sym (none_of (live run parent) none)) stands
 
 -- a waiter that was found is woken
 pub woken_stands : (machine : Machine) (run : Run Stopped) (event shred : ℕ) (waits : List waiters.Wait)
@@ -160,11 +154,6 @@ removed_is run n z e some =
     ap (ended run) (sym number) ∙ ap (ended_where run) (sym s.1)
     ∙ ap (λ z. ended_where run (live_at run z)) (sym e)
 
-pub removed_none : (run : Run Stopped) (n : ℕ) (z : ℤ) → z ≡ pos n → is_some (live run n) ≡ false
-    → run ≡ ended_where run (live_at run z)
-removed_none run n z e none = ap (ended_where run) (sym (none_of (live run n) none))
-    ∙ ap (λ z. ended_where run (live_at run z)) (sym e)
-
 pub removed_below : (run : Run Stopped) (z : ℤ) → z <ℤ pos 0 → run ≡ ended_where run (live_at run z)
 removed_below run (pos n) lt = absurd (omega (arith, ints, lt))
 removed_below run (negsuc n) lt = refl
@@ -179,10 +168,6 @@ carried_some run n stop some =
 
 pub idle_both : (a b : ℕ) → a + b ≡ 0 → (a ≡ 0) × (b ≡ 0)
 idle_both a b none = (omega (arith, none), omega (arith, none))
-
-pub carried_none : (run : Run Stopped) (n : ℕ) (stop : Stop) → is_some (live run n) ≡ false
-    → run ≡ carried_out_where run (live run n) stop
-carried_none run n stop none = ap (λ o. carried_out_where run o stop) (sym (none_of (live run n) none))
 
 -- the waiters of an event: the first one is woken, and then the others
 first_waiter : (event : ℕ) (waits : List Wait) (w : Wait) → find (λ wait. nat_eq wait.event event) waits
@@ -331,9 +316,9 @@ pub on_err : {T X : Type 0} (A : Type 0) (r : Result T X) → A → OnErr r A
 on_err A (Ok x) h = tt
 on_err A (Err x) h = h
 
-pub none_by : (o : Option ℕ) → ((n : ℕ) → o ≡ Some n → ⊥) → o ≡ None
+pub none_by : {A : Type 0} (o : Option A) → ((x : A) → o ≡ Some x → ⊥) → o ≡ None
 none_by None h = refl
-none_by (Some n) h = absurd (h n refl)
+none_by (Some x) h = absurd (h x refl)
 
 pub if_none : {A : Type 0} (P : Type 0) (o : Option A) → o ≡ None → IfNone o P → P
 if_none P None e h = h

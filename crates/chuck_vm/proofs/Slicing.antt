@@ -1,14 +1,13 @@
 -- The slice that the machine runs is the one of the run.
-use Rattle.std.proofs.Common.{◌≡◌, ℕ, zero, suc, ◌+◌, ◌<◌, ◌≤◌, ℤ, nat_eq, List, [], ◌∷◌, ◌++◌, fold, map, find, length, false, slice_set, Option, is_some, Some, None, inl, inr, IfSome, slice_get, refl, sym, ap, ◌∙◌, subst, arith, append_assoc, append-nil}
+use Rattle.std.proofs.Common.{◌≡◌, ℕ, zero, suc, ◌+◌, ◌<◌, ◌≤◌, ℤ, nat_eq, List, [], ◌∷◌, ◌++◌, fold, map, find, false, slice_set, Option, option_map, Some, None, inl, inr, IfSome, slice_get, refl, sym, ap, ◌∙◌, subst, arith, append_assoc, append-nil}
 use Rattle.std.proofs.lemmas.Bool.{eq-eqb, ne_eqb}
-use Rattle.std.proofs.lemmas.Option.{slice_get_cases}
 use Rattle.ck_code.specs.declared.code.CodeParts.{CodeParts}
 use Rattle.ck_code.specs.Machine.{Halt, stopped_at, slice_on, begun_on, enough}
 use Rattle.ck_code.specs.Verified.{IsVerified}
 use Rattle.ck_store.specs.Steps.{pick}
 use Rattle.ck_store.specs.Store.{Store, State, Act, At, On, End}
 use Rattle.ck_meaning.specs.Replay.{Stopped, by_code, slice_left, slice_with, waiting}
-use Rattle.ck_run.specs.Run.{Stop, Asked, Trapped, WentWrong, Slice, Runner, Shred, Wake, TrapAt, Run, has, live, applied, carried_out, carried_out_where, came, noted, trap_of, trap_piece, after_slice, run_slice, written}
+use Rattle.ck_run.specs.Run.{Stop, Asked, Trapped, WentWrong, Slice, Runner, Shred, Wake, TrapAt, Run, live, applied, carried_out, carried_out_where, came, noted, trap_of, trap_piece, after_slice, run_slice, written}
 use Rattle.ck_run.specs.Report.{text_bytes, trap_lines}
 use Rattle.ck_run.specs.Told.{silent, told, AddsFront}
 use Rattle.ck_run.specs.Family.{AreInOrder}
@@ -25,6 +24,7 @@ use Rattle.run_laws.proofs.Lawful.{lawful}
 use Rattle.shred_state.specs.Frames.{Standing}
 use Rattle.machine_world.specs.Acts.{all_acts_meant}
 use Rattle.machine_world.specs.Shown.{shown, frames_of}
+use Rattle.machine_world.specs.Tries.{HasStore}
 use Rattle.machine_world.specs.Worlds.{counted}
 use Rattle.stack_machine.specs.Fitting.{AreSuited}
 use Rattle.stack_machine.specs.Slices.{Tells, slice_of, begun_of}
@@ -34,7 +34,9 @@ use Rattle.machine_world.specs.declared.course.Stop.{Stop as MachineStop}
 use Rattle.machine_world.specs.declared.course.Stop.TheVariants as stop
 use Rattle.chuck_vm.specs.declared.machine.Machine.{Machine}
 use Rattle.chuck_vm.specs.declared.wake.Wake.{Wake as MachineWake}
-use Rattle.chuck_vm.specs.Machine.{stopped_of, shred_of, shreds_of, due_of, wait_of, numbers, Stands, HasRun, Does}
+use Rattle.live_shreds.specs.Live.{numbered}
+use Rattle.live_shreds.specs.Slices as slices
+use Rattle.chuck_vm.specs.Machine.{stopped_of, shred_of, shreds_of, due_of, wait_of, Stands, HasRun, Does}
 use Rattle.chuck_vm.specs.Running.{CanRunSlice, IsIdle, IsNumbered, Ran}
 use Rattle.chuck_vm.specs.Telling.{CanBegin, Becomes, TellsFront}
 use Rattle.chuck_vm.specs.Tallies.{Counts}
@@ -43,13 +45,11 @@ use Rattle.chuck_vm.proofs.Waits.{joined_waits, same_waits}
 use Rattle.chuck_vm.proofs.Applying.{acts_text, text-append}
 use Rattle.chuck_vm.proofs.Beginning.{slice_can}
 use Rattle.chuck_vm.proofs.Dues.{same_due, joined_due}
-use Rattle.chuck_vm.proofs.Lists.{of_some}
-use Rattle.chuck_vm.proofs.Orders.{none_of}
-use Rattle.chuck_vm.proofs.Positions.{above, found_at, has-live}
+use Rattle.chuck_vm.proofs.Positions.{above, found_at}
 use Rattle.chuck_vm.proofs.Reports.{all_added}
 use Rattle.chuck_vm.proofs.Counting.{none_counted}
 use Rattle.chuck_vm.proofs.Settles.{as_all_told, where_tells}
-use Rattle.chuck_vm.proofs.Stands.{now_is, told_alike, quiet_stands, quiet_sound, order_stands}
+use Rattle.chuck_vm.proofs.Stands.{live_stands, now_is, told_alike, quiet_stands, quiet_sound, order_stands}
 
 -- a shred's slice by the machine is its slice by the code
 same_halt : (code : CodeParts) (shred : Standing) (store : Store)
@@ -217,14 +217,12 @@ trap_bytes names wake None e = refl
 trap_bytes names wake (Some at) e = append-nil (trap_lines names wake wake.trap) ∙ ap (trap_lines names wake) e
 
 -- a shred of a run that the machine stood for has run its next slice
-pub record Scene (old m2 : Machine) (n place : ℕ) (stop : MachineStop) (acts : List Recorded)
+pub record Scene (old m2 : Machine) (n : ℕ) (stop : MachineStop) (acts : List Recorded)
     (run : Run Stopped) : Type 0 where
   pub stands : Stands old run
   pub can : CanRunSlice old.code n run
-  pub standing : Standing
-  pub at : slice_get old.shreds.items place ≡ Some standing
-  pub found : live run n ≡ Some (shred_of old.code standing)
-  pub ran : Ran stop standing place old m2 acts
+  pub all : Ran stop n old m2 acts
+  pub found : live run n ≡ Some (shred_of old.code all.slice.shred)
 
 -- carrying out a request tells nothing
 carried_quiet : (run : Run Stopped) (n : ℕ) (stop : Stop)
@@ -241,8 +239,8 @@ where_quiet run None stop = refl
 where_quiet run (Some s) stop = carried_quiet run s.number stop
 
 -- the slice that the machine ran is the one of the run
-module _ (old m2 : Machine) (n place : ℕ) (stop : MachineStop) (acts : List Recorded) (run : Run Stopped)
-    (scene : Scene old m2 n place stop acts run) where
+module _ (old m2 : Machine) (n : ℕ) (stop : MachineStop) (acts : List Recorded) (run : Run Stopped)
+    (scene : Scene old m2 n stop acts run) where
   abbrev code : CodeParts
   code = old.code
 
@@ -259,11 +257,11 @@ module _ (old m2 : Machine) (n place : ℕ) (stop : MachineStop) (acts : List Re
   abbrev Fits : Store → Stopped → Type 0
   Fits store p = IsFitShred code verified.typing store p
 
-  abbrev standing : Standing
-  standing = scene.standing
+  abbrev ran : slices.Ran stop n code old.shreds m2.shreds old.world m2.world acts
+  ran = scene.all.slice
 
-  abbrev ran : Ran stop standing place old m2 acts
-  ran = scene.ran
+  abbrev standing : Standing
+  standing = ran.shred
 
   abbrev s : Shred Stopped
   s = shred_of code standing
@@ -294,7 +292,7 @@ module _ (old m2 : Machine) (n place : ℕ) (stop : MachineStop) (acts : List Re
   after = told_so.state.store
 
   last_is : ran.after.last ≡ after.now
-  last_is = ran.last_is ∙ sym (now_is m2.world after told_so.store)
+  last_is = ran.last_is ∙ sym ran.time_is ∙ sym (now_is m2.world after told_so.store)
 
   abbrev meant : List Act
   meant = all_acts_meant acts
@@ -348,15 +346,15 @@ module _ (old m2 : Machine) (n place : ℕ) (stop : MachineStop) (acts : List Re
   pub quiet_is : Stands m2 quiet
   quiet_is = record {
     store = told_so.store;
-    shreds = ap (λ code. shreds_of code m2.shreds.items) ran.code_is ∙ ap (shreds_of code) ran.shreds_are
-        ∙ set_came code old.shreds.items 1 before.next_shred place standing ran.after
+    shreds = ap (λ code. shreds_of code m2.shreds) scene.all.code_is ∙ ap (shreds_of code) ran.shreds_are
+        ∙ set_came code old.shreds 1 before.next_shred ran.place standing ran.after
         (order_stands old run before.next_shred scene.stands scene.can.can.sound.family.order)
-        scene.at ran.number_is ran.parent_is
+        ran.at ran.number_is ran.parent_is
         ∙ ap (map (came s.number (stopped_of code ran.after))) scene.stands.shreds;
     due = joined_due (map due_of m2.due) (map due_of old.due) run.due
-        (same_due (map due_of m2.due) (map due_of old.due) (ap (map due_of) ran.due_is)) scene.stands.due;
+        (same_due (map due_of m2.due) (map due_of old.due) (ap (map due_of) scene.all.due_is)) scene.stands.due;
     waits = joined_waits (map wait_of m2.waits) (map wait_of old.waits) run.waits
-        (same_waits (map wait_of m2.waits) (map wait_of old.waits) (ap (map wait_of) ran.waits_are))
+        (same_waits (map wait_of m2.waits) (map wait_of old.waits) (ap (map wait_of) scene.all.waits_are))
         scene.stands.waits;
   }
 
@@ -389,7 +387,7 @@ module _ (old m2 : Machine) (n place : ℕ) (stop : MachineStop) (acts : List Re
 
   pub acts_begin : AllSporks (CanBegin m2.code) meant
   acts_begin =
-      subst (λ code. AllSporks (CanBegin code) meant) (sym ran.code_is)
+      subst (λ code. AllSporks (CanBegin code) meant) (sym scene.all.code_is)
       (subst (AllSporks (CanBegin code)) same.acts_are
       (slice_can code verified s.number s.progress before scene.can.can.sound.store s_fits))
 
@@ -419,7 +417,7 @@ module _ (old m2 : Machine) (n place : ℕ) (stop : MachineStop) (acts : List Re
   pub acted_is : (m3 : Machine) → Does m2 (λ run. fold (applied (by_code m2.code) n) run meant) m3
       → Stands m3 acted
   acted_is m3 becomes =
-      subst (λ code. Stands m3 (fold (applied (by_code code) n) quiet meant)) ran.code_is
+      subst (λ code. Stands m3 (fold (applied (by_code code) n) quiet meant)) scene.all.code_is
       (becomes quiet quiet_is)
 
   pub acted_orderly : (m3 : Machine) → Stands m3 acted → (next : ℕ) × IsNumbered next m3
@@ -577,61 +575,48 @@ module _ (old m2 : Machine) (n place : ℕ) (stop : MachineStop) (acts : List Re
       ∙ ap (λ k. record w { time = after.now; shred = k }) shred
       ∙ ap (λ t. record { time = after.now; shred = n; trap = t }) trap
 
--- the live shred at a place
-pub record Placed (code : CodeParts) (items : List Standing) (place n : ℕ) : Type 0 where
-  pub one : Standing
-  pub at : slice_get items place ≡ Some one
-  pub found : find (λ (s : Shred Stopped). nat_eq s.number n) (shreds_of code items) ≡ Some (shred_of code one)
-
-pub placed : (code : CodeParts) (items : List Standing) (place n below : ℕ)
-    → AreInOrder 1 below (shreds_of code items) → place < length items
-    → IfSome (slice_get items place) (λ s. s.number ≡ n) → Placed code items place n
-placed code items place n below order lt is =
-    elim ((slice_get_cases items place).1) [
-      | inl h ↦
-          let number : h.0.number ≡ n = subst (λ o. IfSome o (λ (s : Standing). s.number ≡ n)) h.2 is in
-          record {
-            one = h.0;
-            at = h.2;
-            found = subst (λ k. find (λ (s : Shred Stopped). nat_eq s.number k) (shreds_of code items)
-                ≡ Some (shred_of code h.0)) number (found_at code items 1 below place h.0 order h.2);
-          }
-      | inr h ↦ absurd (omega (arith, lt, h.0))
-    ]
-
-pub placed_at : (old : Machine) (n place : ℕ) (shreds : List Standing) (run : Run Stopped) → Stands old run
-    → CanRunSlice old.code n run → shreds ≡ old.shreds.items → place < length shreds
-    → IfSome (slice_get shreds place) (λ s. s.number ≡ n) → Placed old.code old.shreds.items place n
-placed_at old n place shreds run stands can same lt is =
-    placed old.code old.shreds.items place n run.store.next_shred
-    (order_stands old run run.store.next_shred stands can.can.sound.family.order)
-    (subst (λ items. place < length items) same lt)
-    (subst (λ items. IfSome (slice_get items place) (λ s. s.number ≡ n)) same is)
-
--- so it is with a shred that a search for its number found
-pub scene_at : (old m2 : Machine) (n place : ℕ) (stop : MachineStop) (acts : List Recorded)
-    (shreds : List Standing) (run : Run Stopped) → Stands old run → CanRunSlice old.code n run
-    → shreds ≡ old.shreds.items → place < length shreds
-    → IfSome (slice_get shreds place) (λ s. s.number ≡ n)
-    → IfSome (slice_get old.shreds.items place) (λ shred. Ran stop shred place old m2 acts)
-    → Scene old m2 n place stop acts run
-scene_at old m2 n place stop acts shreds run stands can same lt is ran =
-    let at = placed_at old n place shreds run stands can same lt is in
-    record {
-      stands = stands;
-      can = can;
-      standing = at.one;
-      at = at.at;
-      found = ap (find (λ (s : Shred Stopped). nat_eq s.number n)) (sym stands.shreds) ∙ at.found;
-      ran = of_some (λ (shred : Standing). Ran stop shred place old m2 acts) _ at.one at.at ran;
-    }
+-- so it is with a shred that ran
+pub scene_at : (old m2 : Machine) (n : ℕ) (stop : MachineStop) (acts : List Recorded) (run : Run Stopped)
+    → Stands old run → CanRunSlice old.code n run → Ran stop n old m2 acts → Scene old m2 n stop acts run
+scene_at old m2 n stop acts run stands can ran = record {
+  stands = stands;
+  can = can;
+  all = ran;
+  found = ap (find (λ (s : Shred Stopped). nat_eq s.number n)) (sym stands.shreds)
+      ∙ subst (λ k. find (λ (s : Shred Stopped). nat_eq s.number k) (shreds_of old.code old.shreds)
+      ≡ Some (shred_of old.code ran.slice.shred)) ran.slice.is
+      (found_at old.code old.shreds 1 run.store.next_shred ran.slice.place ran.slice.shred
+      (order_stands old run run.store.next_shred stands can.can.sound.family.order) ran.slice.at);
+}
 
 pub none_live : (old : Machine) (run : Run Stopped) (n : ℕ) → Stands old run
-    → has (numbers old.shreds.items) n ≡ false → live run n ≡ None
+    → numbered n old.shreds ≡ None → live run n ≡ None
 none_live old run n stands none =
-    none_of (live run n)
-    (ap (λ ss. is_some (find (λ (s : Shred Stopped). nat_eq s.number n) ss)) (sym stands.shreds)
-    ∙ sym (has-live old.code n old.shreds.items) ∙ none)
+    live_stands old run n stands ∙ ap (option_map (shred_of old.code)) none
+
+-- the shred that runs is suited
+pub suited_at : (old : Machine) (n : ℕ) (run : Run Stopped) → Stands old run → CanRunSlice old.code n run
+    → IfSome (numbered n old.shreds) (λ shred. HasStore old.world (AreSuited old.code shred))
+suited_at old n run stands can = by (numbered n old.shreds) refl
+  where
+    by : (o : Option Standing) → numbered n old.shreds ≡ o
+        → IfSome o (λ shred. HasStore old.world (AreSuited old.code shred))
+    by None is = tt
+    by (Some one) is =
+        let found : live run n ≡ Some (shred_of old.code one) =
+        live_stands old run n stands ∙ ap (option_map (shred_of old.code)) is in
+        let fits =
+        (found_has (λ (s : Shred Stopped). IsFitShred old.code can.can.verified.typing run.store s.progress)
+        _ _ _ can.can.sound.fits found).1 in
+        record {
+          store = run.store;
+          stands = stands.store;
+          so = record {
+            verified = can.can.verified;
+            main = fits.main;
+            fit = record { frames_fit = fits.frames; store_fits = can.can.sound.store.fits };
+          };
+        }
 
 pub no_slice : (names : List (List ℕ)) (old : Machine) (n : ℕ) (text : List ℕ) (wakes : List MachineWake)
     (run : Run Stopped) → Stands old run → live run n ≡ None

@@ -1,5 +1,5 @@
 -- What a machine has of the runs that it stands for.
-use Rattle.std.proofs.Common.{◌≡◌, ℕ, suc, ◌+◌, ◌-◌, ◌*◌, ℤ, not, nat_eq, List, map, Option, option_map, refl, sym, ap, ◌∙◌, subst}
+use Rattle.std.proofs.Common.{◌≡◌, ℕ, suc, ◌+◌, ◌-◌, ◌*◌, ℤ, not, nat_eq, List, map, find, is_some, Option, option_map, refl, sym, ap, ◌∙◌, subst}
 use Rattle.ck_base.specs.declared.limits.TheConstants.{MAX_SPORKS}
 use Rattle.ck_code.specs.declared.code.CodeParts.{CodeParts}
 use Rattle.ck_store.specs.Steps.{fresh}
@@ -7,18 +7,20 @@ use Rattle.ck_store.specs.Store.{Store}
 use Rattle.ck_meaning.specs.Replay.{Stopped}
 use Rattle.ck_run.specs.Counts.{weight}
 use Rattle.ck_run.specs.Family.{AreInOrder, IsFamily}
-use Rattle.ck_run.specs.Run.{Shred, Due, Wait, Run, first_due}
+use Rattle.ck_run.specs.Run.{Shred, Due, Wait, Run, live, first_due}
 use Rattle.ck_run.specs.Sound.{IsSound, measure, times_due, times_waiting}
 use Rattle.ck_run.specs.Told.{silent}
 use Rattle.run_laws.specs.FitRuns.{turns_at}
+use Rattle.live_shreds.specs.Live.{numbered}
 use Rattle.shreduler.specs.Queue as queue
 use Rattle.event_queue.specs.Waiters as waiters
 use Rattle.machine_world.specs.Worlds.{Parts, StandsFor, store_of}
 use Rattle.chuck_vm.specs.declared.machine.Machine.{Machine}
-use Rattle.chuck_vm.specs.Machine.{shreds_of, due_of, wait_of, AreDueAlike, WaitAlike, Stands}
+use Rattle.chuck_vm.specs.Machine.{shred_of, shreds_of, due_of, wait_of, AreDueAlike, WaitAlike, Stands}
 use Rattle.chuck_vm.specs.Running.{CanRun, IsQuietBefore}
 use Rattle.chuck_vm.proofs.Dues.{none_due, first_alike, same_due, joined_due, stay_due}
 use Rattle.chuck_vm.proofs.Ends.{dues_but, waits_but}
+use Rattle.chuck_vm.proofs.Positions.{live_is, some_map}
 use Rattle.chuck_vm.proofs.Waits.{joined_waits, same_waits, stay_waits, times_waits}
 use Rattle.chuck_vm.proofs.Queues.{waits_without, dues_times, waits_times, dues_without, first_number}
 
@@ -44,7 +46,7 @@ measured now shreds sporks =
 
 abbrev pub turns_left : Machine → ℕ
 turns_left machine =
-    measured machine.world.time (shreds_of machine.code machine.shreds.items) machine.world.sporks
+    measured machine.world.time (shreds_of machine.code machine.shreds) machine.world.sporks
 
 pub measure_is : (machine : Machine) (run : Run Stopped) → Stands machine run
     → measure turns_at run ≡ turns_left machine
@@ -52,7 +54,7 @@ measure_is machine run stands =
     let world = machine.world in
     ap (λ now. measured now run.shreds run.store.sporks) (now_is world run.store stands.store)
     ∙ ap (λ ss. measured world.time ss run.store.sporks) (sym stands.shreds)
-    ∙ ap (measured world.time (shreds_of machine.code machine.shreds.items))
+    ∙ ap (measured world.time (shreds_of machine.code machine.shreds))
     (sporks_is world run.store stands.store)
 
 -- whatever a run has told
@@ -86,8 +88,21 @@ unquiet_can code run can = record {
 
 -- the live shreds of each run are those of the machine
 pub order_stands : (machine : Machine) (run : Run Stopped) (next : ℕ) → Stands machine run
-    → AreInOrder 1 next run.shreds → AreInOrder 1 next (shreds_of machine.code machine.shreds.items)
+    → AreInOrder 1 next run.shreds → AreInOrder 1 next (shreds_of machine.code machine.shreds)
 order_stands machine run next stands order = subst (AreInOrder 1 next) (sym stands.shreds) order
+
+-- so one is live where the machine has its number
+pub live_stands : (machine : Machine) (run : Run Stopped) (n : ℕ) → Stands machine run
+    → live run n ≡ option_map (shred_of machine.code) (numbered n machine.shreds)
+live_stands machine run n stands =
+    ap (find (λ (s : Shred Stopped). nat_eq s.number n)) (sym stands.shreds)
+    ∙ live_is machine.code n machine.shreds
+
+pub is_live_stands : (machine : Machine) (run : Run Stopped) (n : ℕ) → Stands machine run
+    → is_some (numbered n machine.shreds) ≡ is_some (live run n)
+is_live_stands machine run n stands =
+    sym (some_map (shred_of machine.code) (numbered n machine.shreds))
+    ∙ sym (ap is_some (live_stands machine run n stands))
 
 pub family_stands : (machine : Machine) (one two : Run Stopped) (next : ℕ) → Stands machine one
     → Stands machine two → IsFamily next one.shreds → IsFamily next two.shreds

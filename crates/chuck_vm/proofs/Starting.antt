@@ -10,6 +10,7 @@ use Rattle.ck_run.specs.Run.{Shred, Due, first_shreds, first_due_of}
 use Rattle.ck_run.specs.Counts.{times}
 use Rattle.ck_run.proofs.Lists.{hit-other, times-append}
 use Rattle.shred_state.specs.Frames.{Standing}
+use Rattle.live_shreds.specs.Live.{AreBelow}
 use Rattle.shreduler.specs.Queue as queue
 use Rattle.machine_world.specs.Worlds.{StandsFor}
 use Rattle.chuck_vm.specs.declared.machine.Machine.{Machine}
@@ -20,6 +21,12 @@ use Rattle.chuck_vm.proofs.Waits.{same_waits}
 use Rattle.chuck_vm.proofs.Lists.{map-push}
 use Rattle.chuck_vm.proofs.Queues.{due_pushed}
 
+-- one more below the next number
+below_more : (n : ℕ) (shreds : List Standing) (s : Standing) → AreBelow n shreds → s.number < suc n
+    → AreBelow (suc n) (shreds ++ s ∷ [])
+below_more n [] s below lt = (lt, tt)
+below_more n (t ∷ shreds) s below lt = (omega (arith, below.0), below_more n shreds s below.1 lt)
+
 module _ (code : CodeParts) where
   -- so many shreds stand, and those of these mains are left
   pub record Starting (number : ℕ) (left : List ℕ) (shreds : List Standing) (dues : List queue.Due) : Type
@@ -29,9 +36,10 @@ module _ (code : CodeParts) where
     pub dues_are : AreDueAlike (map due_of dues ++ map first_due_of (first_shreds (by_code code) (suc number) left))
         (map first_due_of (first_shreds (by_code code) 1 code.mains))
     pub new : (m : ℕ) → number < m → times (λ (d : Due). d.shred) m (map due_of dues) ≡ 0
+    pub below : AreBelow (suc number) shreds
 
   pub none_started : Starting 0 code.mains [] []
-  none_started = record { shreds_are = refl; dues_are = λ time. refl; new = λ m lt. refl }
+  none_started = record { shreds_are = refl; dues_are = λ time. refl; new = λ m lt. refl; below = tt }
 
   pub one_started : (number main : ℕ) (left : List ℕ) (shreds shreds2 : List Standing)
       (dues dues2 : List queue.Due) (s : Standing) → Starting number (main ∷ left) shreds dues
@@ -60,6 +68,10 @@ module _ (code : CodeParts) where
           so_far.new m (omega (arith, lt)),
           hit-other m (suc number) (λ e. omega (arith, e, lt)),
         ));
+        below = subst (AreBelow (suc (suc number))) (sym pushed)
+            (below_more (suc number) shreds s so_far.below
+            (let number_is : s.number ≡ suc number = ap (λ (s : Shred Stopped). s.number) is in
+            omega (arith, number_is)));
       }
 
   -- the next main
@@ -95,7 +107,7 @@ module _ (code : CodeParts) (number : ℕ) (left : List ℕ) (shreds : List Stan
 pub all_started : (machine : Machine)
     → StandsFor machine.world (first_store (length machine.code.mains) machine.code.statics)
     → machine.waits ≡ []
-    → shreds_of machine.code machine.shreds.items ≡ first_shreds (by_code machine.code) 1 machine.code.mains
+    → shreds_of machine.code machine.shreds ≡ first_shreds (by_code machine.code) 1 machine.code.mains
     → AreDueAlike (map due_of machine.due)
     (map first_due_of (first_shreds (by_code machine.code) 1 machine.code.mains))
     → Stands machine (run_code machine.code 0)

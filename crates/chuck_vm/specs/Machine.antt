@@ -1,10 +1,10 @@
 -- What a machine of many shreds stands for.
-use Rattle.std.specs.Prelude.{◌≡◌, ℕ, ℤ, Bool, not, ◌||◌, ◌&&◌, List, map, filter, nat_eq, nat_le}
+use Rattle.std.specs.Prelude.{◌≡◌, ℕ, ℤ, List, map, filter, nat_eq}
 use Rattle.std.specs.Ordering.{int_eq}
 use Rattle.ck_code.specs.declared.code.CodeParts.{CodeParts}
 use Rattle.ck_code.specs.Machine.{stopped_at}
 use Rattle.ck_meaning.specs.Replay.{Stopped}
-use Rattle.ck_run.specs.Run.{Shred, Due, Wait, Run, has}
+use Rattle.ck_run.specs.Run.{Shred, Due, Wait, Run}
 use Rattle.shred_state.specs.Frames.{Standing}
 use Rattle.shreduler.specs.Queue as queue
 use Rattle.event_queue.specs.Waiters as waiters
@@ -58,7 +58,7 @@ WaitAlike one two = (event : ℕ) → shreds_waiting event one ≡ shreds_waitin
 -- the same order
 pub record Stands (machine : Machine) (run : Run Stopped) : Type 0 where
   pub store : StandsFor machine.world run.store
-  pub shreds : shreds_of machine.code machine.shreds.items ≡ run.shreds
+  pub shreds : shreds_of machine.code machine.shreds ≡ run.shreds
   pub due : AreDueAlike (map due_of machine.due) run.due
   pub waits : WaitAlike (map wait_of machine.waits) run.waits
 
@@ -79,14 +79,3 @@ Reads machine of a = OfEach machine (λ run. a ≡ of run)
 -- the new machine stands for each run that the old one stood for, once this is done to it
 abbrev pub Does : (old : Machine) → (step : Run Stopped → Run Stopped) → (new : Machine) → Type 0
 Does old step new = OfEach old (λ run. Stands new (step run))
-
-abbrev pub numbers : List Standing → List ℕ
-numbers shreds = map (λ shred. shred.number) shreds
-
--- a shred ends with the one of this number, where of the shreds before it these have stayed: it is
--- that one, or its parent is one of those who could end, and hasn't stayed
-abbrev pub ends_behind : (number : ℕ) → (stayed : List ℕ) → Standing → Bool
-ends_behind number stayed shred =
-    nat_eq shred.number number
-    || (not (nat_eq shred.parent 0)
-    && (nat_le number shred.parent && not (has stayed shred.parent)))

@@ -1,5 +1,5 @@
 -- What running a slice needs of a machine, and does to it.
-use Rattle.std.specs.Prelude.{◌≡◌, ℕ, ◌+◌, ◌≤◌, ℤ, ◌<ℤ◌, List, slice_set, None}
+use Rattle.std.specs.Prelude.{◌≡◌, ℕ, ◌+◌, ◌≤◌, ℤ, ◌<ℤ◌, List, None}
 use Rattle.ck_code.specs.declared.code.CodeParts.{CodeParts}
 use Rattle.ck_code.specs.Verified.{IsVerified}
 use Rattle.ck_meaning.specs.Replay.{Stopped, by_code}
@@ -7,12 +7,9 @@ use Rattle.ck_run.specs.Run.{Run, live, run_slice, first_due, settled}
 use Rattle.ck_run.specs.Sound.{IsOrderly, IsSound, measure, times_due, times_waiting}
 use Rattle.ck_run.specs.Told.{silent}
 use Rattle.run_laws.specs.FitRuns.{IsRunStore, IsFitShred, turns_at}
-use Rattle.shred_state.specs.Frames.{Standing}
 use Rattle.machine_world.specs.declared.acts.Act.{Act}
 use Rattle.machine_world.specs.declared.course.Stop.{Stop}
-use Rattle.machine_world.specs.Worlds.{counted}
-use Rattle.stack_machine.specs.Fitting.{OfSuited}
-use Rattle.stack_machine.specs.Slices.{Tells, slice_of, begun_of}
+use Rattle.live_shreds.specs.Slices as slices
 use Rattle.chuck_vm.specs.declared.machine.Machine.{Machine}
 use Rattle.chuck_vm.specs.Machine.{HasRun, OfEach}
 
@@ -52,19 +49,10 @@ abbrev pub IsQuietBefore : (time : ℤ) → Machine → Type 0
 IsQuietBefore time machine = OfEach machine (λ run.
     (now : ℤ) → now <ℤ time → first_due now run.due ≡ None)
 
--- the shred at a place ran its next slice: it stands anew, the world is what the slice left, and
--- nothing else has changed
-pub record Ran (stop : Stop) (shred : Standing) (place : ℕ) (old new : Machine)
-    (acts : List Act) : Type 0 where
-  pub after : Standing
-  pub tells : OfSuited old.code shred old.world (λ store.
-      Tells stop (slice_of old.code shred store) old.code after new.world acts)
-  pub number_is : after.number ≡ shred.number
-  pub parent_is : after.parent ≡ shred.parent
-  pub last_is : after.last ≡ new.world.time
-  pub ran_is : OfSuited old.code shred old.world (λ store.
-      new.world.ran ≡ counted old.world.ran (begun_of old.code shred store))
-  pub shreds_are : new.shreds.items ≡ slice_set old.shreds.items place after
+-- the live shred with a number ran its next slice: it stands anew where it stood, the world is what
+-- the slice left, and nothing else has changed
+pub record Ran (stop : Stop) (number : ℕ) (old new : Machine) (acts : List Act) : Type 0 where
+  pub slice : slices.Ran stop number old.code old.shreds new.shreds old.world new.world acts
   pub due_is : new.due ≡ old.due
   pub waits_are : new.waits ≡ old.waits
   pub code_is : new.code ≡ old.code

@@ -1,6 +1,6 @@
 //! The slices of a machine, one after another, and the samples.
 ghost use Rattle.std.specs.Prelude.{◌≡◌, ℕ, ◌+◌, ◌++◌, ◌<◌, ◌≤◌, List, [], length};
-ghost use Rattle.std.specs.Prelude.{slice_get, fold, IfOk, IfSome, OnOk, OnErr};
+ghost use Rattle.std.specs.Prelude.{fold, None, IfOk, IfSome, IfNone, OnOk, OnErr};
 ghost use Rattle.std.specs.Option.{option_map};
 ghost use Rattle.ck_base.specs.declared.limits.TheConstants.{MAX_FILES, MAX_SAMPLES};
 ghost use Rattle.ck_code.specs.Verified.{IsVerified};
@@ -9,6 +9,7 @@ ghost use Rattle.ck_run.specs.Report.{text_bytes};
 ghost use Rattle.ck_run.specs.Run.{applied, trap_of, written};
 ghost use Rattle.ck_run.specs.Sound.{AreNumbered, AllSporks};
 ghost use Rattle.ck_run.specs.Told.{AddsFront};
+ghost use Rattle.live_shreds.specs.Live.{numbered};
 ghost use Rattle.machine_world.specs.Acts.{all_acts_meant};
 ghost use Rattle.machine_world.specs.Tries.{HasStore};
 ghost use Rattle.stack_machine.specs.Fitting.{AreSuited};
@@ -20,11 +21,11 @@ ghost use Rattle.chuck_vm.specs.Tallies.{Counts, as_counted};
 ghost use Rattle.chuck_vm.specs.Vm.{block_of};
 ghost use Rattle.chuck_vm.specs.Wakes.{names_of, trap_meant, stop_meant};
 
-use crate::machine::{Machine, position_of};
+use crate::machine::Machine;
 use crate::report::note;
 use crate::wake::{TrapAt, Wake};
 use fixed_point::Memory;
-use stack_machine::{Acts, Stop, slice};
+use stack_machine::{Acts, Stop};
 use std::alloc::Global;
 
 /// The trap with which a shred stopped.
@@ -41,18 +42,26 @@ fn trap_of(stop: &Stop) -> Option<TrapAt>
 }
 
 impl Machine {
-    /// Runs the next slice of the shred at a place.
-    fn slice_at(&mut self, alloc: Global, place: usize, acts: &mut Acts) -> Result<Stop, Memory>
-        requires within { place < length self.old.shreds.items }
+    /// Runs the next slice of the shred with a number. None exactly where it isn't live, and then
+    /// nothing has changed.
+    fn slice_of(
+        &mut self,
+        alloc: Global,
+        number: u64,
+        acts: &mut Acts,
+    ) -> Result<Option<Stop>, Memory>
         requires empty { acts.old ≡ [] }
-        requires suited { IfSome (slice_get self.old.shreds.items place) (λ shred.
+        requires suited { IfSome (numbered number self.old.shreds) (λ shred.
             HasStore self.old.world (AreSuited self.old.code shred)) }
-        ensures ran { IfOk result (λ stop. IfSome (slice_get self.old.shreds.items place)
-            (λ shred. Ran stop shred place self.old self.new acts.new)) }
+        ensures ran { IfOk result (λ stop. IfSome stop (λ stop.
+            Ran stop number self.old self.new acts.new)) }
+        ensures none { IfOk result (λ stop. IfNone stop
+            (numbered number self.old.shreds ≡ None)) }
+        ensures same { IfOk result (λ stop. IfNone stop (self.new ≡ self.old)) }
         ensures code { self.new.code ≡ self.old.code }
     {
-        let shred = &mut self.shreds[place];
-        slice(alloc, &self.code, shred, &mut self.world, acts)
+        self.shreds
+            .run_slice(alloc, number, &self.code, &mut self.world, acts)
     }
 
     /// Applies the acts of a shred in their order, and adds what they print.
@@ -105,11 +114,10 @@ impl Machine {
         ensures counts { OnOk result (OfSlice self.old number (λ run.
             Counts run.begun self.old.world.ran self.new.world.ran)) }
     {
-        let Some(place) = position_of(self.shreds.as_slice(), number) else {
+        let mut acts = Acts::new(alloc);
+        let Some(stop) = self.slice_of(alloc, number, &mut acts)? else {
             return Ok(());
         };
-        let mut acts = Acts::new(alloc);
-        let stop = self.slice_at(alloc, place, &mut acts)?;
         self.apply_all(alloc, number, acts, text)?;
         let wake = Wake {
             at: self.world.now(),

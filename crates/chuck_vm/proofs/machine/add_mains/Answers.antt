@@ -19,7 +19,7 @@ loop-i-init c =
     let mains_are : c.items-main-items.result.now ≡ code.mains = c.items-main-items.ensures
     ∙ ap (λ (parts : CodeParts). parts.mains) c.parts.ensures.parts in
     record {
-      started = subst (λ mains. Starting code 0 mains c.args.shreds.now.items c.args.due.now) (sym mains_are)
+      started = subst (λ mains. Starting code 0 mains c.args.shreds.now c.args.due.now) (sym mains_are)
           (subst (λ shreds. Starting code 0 code.mains shreds c.args.due.now) (sym c.requires.no_shred)
           (subst (Starting code 0 code.mains []) (sym c.requires.none_due) (none_started code)));
     }
@@ -56,11 +56,11 @@ loop-i-preserved c =
     ∙ ap (λ n. record { number = n; parent = 0; progress = beginning code main [] }) next in
     let due = c.in_ok-shredule.ensures.due
     ∙ ap (λ n. queue.arrived (record { time = pos 0; shred = n }) c.loop-i.due) next in
-    let here = next_main code mains i c.loop-i.shreds.items c.loop-i.due lt c.loop-i.invariant.started in
-    let one = one_started code i main (drop (suc i) mains) c.loop-i.shreds.items c.push.new.self.items
-    c.loop-i.due c.shredule.new.self shred here c.in_ok-push.ensures.items is due in
+    let here = next_main code mains i c.loop-i.shreds c.loop-i.due lt c.loop-i.invariant.started in
+    let one = one_started code i main (drop (suc i) mains) c.loop-i.shreds c.push.new.self
+    c.loop-i.due c.shredule.new.self shred here c.in_ok-push.ensures.pushed is due in
     record {
-      started = subst (λ n. Starting code n (drop n mains) c.push.new.self.items c.shredule.new.self)
+      started = subst (λ n. Starting code n (drop n mains) c.push.new.self c.shredule.new.self)
           (sym next) one;
     }
 
@@ -68,12 +68,12 @@ pub returns-clause-shreds : goal.returns-clause-shreds
 returns-clause-shreds c =
     let mains = c.items-main-items.result.now in
     let past : length mains ≤ c.loop-i.i = search rules in
-    all_stand c.args.code.now c.loop-i.i (drop c.loop-i.i mains) c.loop-i.shreds.items c.loop-i.due
+    all_stand c.args.code.now c.loop-i.i (drop c.loop-i.i mains) c.loop-i.shreds c.loop-i.due
     (drop_all mains c.loop-i.i past) c.loop-i.invariant.started
 
 pub returns-clause-due : goal.returns-clause-due
 returns-clause-due c =
     let mains = c.items-main-items.result.now in
     let past : length mains ≤ c.loop-i.i = search rules in
-    all_due c.args.code.now c.loop-i.i (drop c.loop-i.i mains) c.loop-i.shreds.items c.loop-i.due
+    all_due c.args.code.now c.loop-i.i (drop c.loop-i.i mains) c.loop-i.shreds c.loop-i.due
     (drop_all mains c.loop-i.i past) c.loop-i.invariant.started
