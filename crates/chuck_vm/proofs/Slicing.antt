@@ -576,18 +576,21 @@ module _ (old m2 : Machine) (n : ℕ) (stop : MachineStop) (acts : List Recorded
       ∙ ap (λ t. record { time = after.now; shred = n; trap = t }) trap
 
 -- so it is with a shred that ran
-pub scene_at : (old m2 : Machine) (n : ℕ) (stop : MachineStop) (acts : List Recorded) (run : Run Stopped)
-    → Stands old run → CanRunSlice old.code n run → Ran stop n old m2 acts → Scene old m2 n stop acts run
-scene_at old m2 n stop acts run stands can ran = record {
-  stands = stands;
-  can = can;
-  all = ran;
-  found = ap (find (λ (s : Shred Stopped). nat_eq s.number n)) (sym stands.shreds)
-      ∙ subst (λ k. find (λ (s : Shred Stopped). nat_eq s.number k) (shreds_of old.code old.shreds)
-      ≡ Some (shred_of old.code ran.slice.shred)) ran.slice.is
-      (found_at old.code old.shreds 1 run.store.next_shred ran.slice.place ran.slice.shred
-      (order_stands old run run.store.next_shred stands can.can.sound.family.order) ran.slice.at);
-}
+pub scene_at : (old m2 : Machine) (n : ℕ) (o : Option MachineStop) (stop : MachineStop) (acts : List Recorded)
+    (run : Run Stopped) → Stands old run → CanRunSlice old.code n run → o ≡ Some stop
+    → IfSome o (λ stop. Ran stop n old m2 acts) → Scene old m2 n stop acts run
+scene_at old m2 n o stop acts run stands can is told =
+    let ran = of_some (λ stop. Ran stop n old m2 acts) o stop is told in
+    record {
+      stands = stands;
+      can = can;
+      all = ran;
+      found = ap (find (λ (s : Shred Stopped). nat_eq s.number n)) (sym stands.shreds)
+          ∙ subst (λ k. find (λ (s : Shred Stopped). nat_eq s.number k) (shreds_of old.code old.shreds)
+          ≡ Some (shred_of old.code ran.slice.shred)) ran.slice.is
+          (found_at old.code old.shreds 1 run.store.next_shred ran.slice.place ran.slice.shred
+          (order_stands old run run.store.next_shred stands can.can.sound.family.order) ran.slice.at);
+    }
 
 pub none_live : (old : Machine) (run : Run Stopped) (n : ℕ) → Stands old run
     → numbered n old.shreds ≡ None → live run n ≡ None

@@ -126,8 +126,8 @@ impl Shreds {
         if !self.is_live(number) {
             return None;
         }
-        let number = self.childless(number);
-        self.remove(number)
+        let last = self.childless(number);
+        self.remove(last)
     }
 
     /// The number of a shred without live children that ends with the one of a number: down from

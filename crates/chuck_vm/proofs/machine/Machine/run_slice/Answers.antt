@@ -7,10 +7,8 @@ use Rattle.ck_meaning.specs.Replay.{by_code}
 use Rattle.ck_run.specs.Told.{silent}
 use Rattle.chuck_vm.specs.declared.machine.Machine.{Machine}
 use Rattle.chuck_vm.specs.Machine.{Does}
-use Rattle.chuck_vm.specs.Running.{Ran}
 use Rattle.chuck_vm.specs.Tallies.{Counts}
 use Rattle.chuck_vm.specs.Telling.{Becomes}
-use Rattle.chuck_vm.proofs.Lists.{of_some}
 use Rattle.chuck_vm.specs.Wakes.{names_of, wake_meant, stop_meant}
 use Rattle.chuck_vm.proofs.Orders.{none_by, if_none, on_err, on_ok, with_ok}
 use Rattle.chuck_vm.proofs.Slicing.{suited_at, scene_at, before_acts, acts_begin, acted_is, acted_orderly, acted_idle, front_acts, front_note, front_all, becomes_all, counts_all, wake_is, none_live, no_slice, no_begun}
@@ -47,9 +45,8 @@ returns-in_default-clause-counts c = λ run stands can.
 pub apply_all-requires : goal.apply_all-requires
 apply_all-requires c =
     let some = c.requires.can_run in
-    let scene = scene_at c.args.self.now c.slice_of.new.self c.args.number c.in-Some.stop c.slice_of.new.acts
-    some.run some.stands some.so (of_some (λ stop. Ran stop c.args.number c.args.self.now c.slice_of.new.self c.slice_of.new.acts)
-    _ _ c.in-Some.is c.in_ok-stop.ensures.ran) in
+    let scene = scene_at c.args.self.now c.slice_of.new.self c.args.number c.in_ok-stop.field-0 c.in-Some.stop
+    c.slice_of.new.acts some.run some.stands some.so c.in-Some.is c.in_ok-stop.ensures.ran in
     record {
       orderly = before_acts _ _ _ _ _ _ scene;
       begin = acts_begin _ _ _ _ _ _ scene;
@@ -59,9 +56,8 @@ pub returns-in_err-apply_all-clause-front : goal.returns-in_err-apply_all-clause
 returns-in_err-apply_all-clause-front c =
     on_err _ c.from_residual-in_err-apply_all.result (λ run stands can.
     let names = names_of c.args.names.now in
-    let scene = scene_at c.args.self.now c.slice_of.new.self c.args.number c.in-Some.stop c.slice_of.new.acts
-    run stands can (of_some (λ stop. Ran stop c.args.number c.args.self.now c.slice_of.new.self c.slice_of.new.acts)
-    _ _ c.in-Some.is c.in_ok-stop.ensures.ran) in
+    let scene = scene_at c.args.self.now c.slice_of.new.self c.args.number c.in_ok-stop.field-0 c.in-Some.stop
+    c.slice_of.new.acts run stands can c.in-Some.is c.in_ok-stop.ensures.ran in
     front_acts _ _ _ _ _ _ scene names c.args.text.now.items
     c.apply_all.new.text.items c.apply_all.new.text.items c.args.wakes.now.items c.args.wakes.now.items
     (c.in_err-apply_all.ensures.front names))
@@ -70,9 +66,8 @@ pub returns-in_err-note-clause-front : goal.returns-in_err-note-clause-front
 returns-in_err-note-clause-front c =
     on_err _ c.from_residual-in_err-note.result (λ run stands can.
     let names = names_of c.args.names.now in
-    let scene = scene_at c.args.self.now c.slice_of.new.self c.args.number c.in-Some.stop c.slice_of.new.acts
-    run stands can (of_some (λ stop. Ran stop c.args.number c.args.self.now c.slice_of.new.self c.slice_of.new.acts)
-    _ _ c.in-Some.is c.in_ok-stop.ensures.ran) in
+    let scene = scene_at c.args.self.now c.slice_of.new.self c.args.number c.in_ok-stop.field-0 c.in-Some.stop
+    c.slice_of.new.acts run stands can c.in-Some.is c.in_ok-stop.ensures.ran in
     let m3 = c.apply_all.new.self in
     let acted = acted_is _ _ _ _ _ _ scene m3 c.in_ok-apply_all.ensures.becomes in
     let fits : SFits w64 c.now.result = search rules in
@@ -87,9 +82,8 @@ returns-in_err-note-clause-front c =
 pub carry_out-requires : goal.carry_out-requires
 carry_out-requires c =
     let some = c.requires.can_run in
-    let scene = scene_at c.args.self.now c.slice_of.new.self c.args.number c.in-Some.stop c.slice_of.new.acts
-    some.run some.stands some.so (of_some (λ stop. Ran stop c.args.number c.args.self.now c.slice_of.new.self c.slice_of.new.acts)
-    _ _ c.in-Some.is c.in_ok-stop.ensures.ran) in
+    let scene = scene_at c.args.self.now c.slice_of.new.self c.args.number c.in_ok-stop.field-0 c.in-Some.stop
+    c.slice_of.new.acts some.run some.stands some.so c.in-Some.is c.in_ok-stop.ensures.ran in
     let m3 = c.apply_all.new.self in
     let acted = acted_is _ _ _ _ _ _ scene m3 c.in_ok-apply_all.ensures.becomes in
     record {
@@ -100,9 +94,8 @@ carry_out-requires c =
 pub returns-clause-counts : goal.returns-clause-counts
 returns-clause-counts c =
     with_ok _ c.carry_out.result (λ run stands can.
-    let scene = scene_at c.args.self.now c.slice_of.new.self c.args.number c.in-Some.stop c.slice_of.new.acts
-    run stands can (of_some (λ stop. Ran stop c.args.number c.args.self.now c.slice_of.new.self c.slice_of.new.acts)
-    _ _ c.in-Some.is c.in_ok-stop.ensures.ran) in
+    let scene = scene_at c.args.self.now c.slice_of.new.self c.args.number c.in_ok-stop.field-0 c.in-Some.stop
+    c.slice_of.new.acts run stands can c.in-Some.is c.in_ok-stop.ensures.ran in
     counts_all _ _ _ _ _ _ scene c.carry_out.new.self.world.ran
     (c.carry_out.ensures.ran ∙ c.apply_all.ensures.ran))
 
@@ -115,9 +108,8 @@ returns-clause-becomes c =
     on_ok (Does m3 (λ run. carried_out_where run (live run n) (stop_meant stop)) m4) _ c.carry_out.result
     (λ done run stands can.
     let names = names_of c.args.names.now in
-    let scene = scene_at c.args.self.now c.slice_of.new.self c.args.number c.in-Some.stop c.slice_of.new.acts
-    run stands can (of_some (λ stop. Ran stop c.args.number c.args.self.now c.slice_of.new.self c.slice_of.new.acts)
-    _ _ c.in-Some.is c.in_ok-stop.ensures.ran) in
+    let scene = scene_at c.args.self.now c.slice_of.new.self c.args.number c.in_ok-stop.field-0 c.in-Some.stop
+    c.slice_of.new.acts run stands can c.in-Some.is c.in_ok-stop.ensures.ran in
     let m3 = c.apply_all.new.self in
     let acted = acted_is _ _ _ _ _ _ scene m3 c.in_ok-apply_all.ensures.becomes in
     let fits : SFits w64 c.now.result = search rules in
@@ -134,9 +126,8 @@ pub returns-clause-front : goal.returns-clause-front
 returns-clause-front c =
     on_err _ c.carry_out.result (λ run stands can.
     let names = names_of c.args.names.now in
-    let scene = scene_at c.args.self.now c.slice_of.new.self c.args.number c.in-Some.stop c.slice_of.new.acts
-    run stands can (of_some (λ stop. Ran stop c.args.number c.args.self.now c.slice_of.new.self c.slice_of.new.acts)
-    _ _ c.in-Some.is c.in_ok-stop.ensures.ran) in
+    let scene = scene_at c.args.self.now c.slice_of.new.self c.args.number c.in_ok-stop.field-0 c.in-Some.stop
+    c.slice_of.new.acts run stands can c.in-Some.is c.in_ok-stop.ensures.ran in
     let m3 = c.apply_all.new.self in
     let acted = acted_is _ _ _ _ _ _ scene m3 c.in_ok-apply_all.ensures.becomes in
     let fits : SFits w64 c.now.result = search rules in
