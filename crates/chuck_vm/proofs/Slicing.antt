@@ -41,6 +41,7 @@ use Rattle.chuck_vm.specs.Running.{CanRunSlice, IsIdle, IsNumbered, Ran}
 use Rattle.chuck_vm.specs.Telling.{CanBegin, Becomes, TellsFront}
 use Rattle.chuck_vm.specs.Tallies.{Counts}
 use Rattle.chuck_vm.specs.Wakes.{stop_meant, wakes_meant}
+use Rattle.chuck_vm.proofs.Lists.{of_some}
 use Rattle.chuck_vm.proofs.Waits.{joined_waits, same_waits}
 use Rattle.chuck_vm.proofs.Applying.{acts_text, text-append}
 use Rattle.chuck_vm.proofs.Beginning.{slice_can}

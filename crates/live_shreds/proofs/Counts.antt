@@ -193,8 +193,13 @@ module _ {T : Type 0} (number parent : T → ℕ) where
       by None is = absurd (omega (arith, some, none items is))
       by (Some it) is =
           let test : T → Bool = λ it. nat_eq (number it) n && nat_eq (parent it) p in
-          let passes = both (nat_eq (number it) n) (nat_eq (parent it) p) (found_passes test items it is) in
-          (it, found_among test items it is, eqb-true (number it) n passes.0, eqb-true (parent it) p passes.1, found_has P test items it all is)
+          let passes = both (nat_eq (number it) n) (nat_eq (parent it) p) (found_passes test items it is) in (
+            it,
+            found_among test items it is,
+            eqb-true (number it) n passes.0,
+            eqb-true (parent it) p passes.1,
+            found_has P test items it all is,
+          )
 
   -- a number stands nowhere that no shred has as its child
   pub nowhere : (n : ℕ) (items : List T) → ((p : ℕ) → times_child number parent p n items ≡ 0)

@@ -9,10 +9,10 @@ down-init c = Itself
 
 pub down-smaller : goal.down-smaller
 down-smaller c =
-    let lt : c.down.at < c.in-Some.child = (first_child c.self.inside.live c.self.inside.children c.self.invariant c.down.at _
-    (sym c.first_of.ensures ∙ c.in-Some.is)).later in
+    let it = first_child c.self.inside.live c.self.inside.children c.self.invariant c.down.at _
+    (sym c.first_of.ensures ∙ c.in-Some.is) in
     let fits : c.in-Some.child < 2 ^ 64 = search rules in
-    omega (arith, lt, fits)
+    omega (arith, it.later, fits)
 
 pub down-preserved : goal.down-preserved
 down-preserved c =
