@@ -98,6 +98,10 @@ for (0 => int i; i < 1000; i++) { 1::samp => now; e.broadcast(); }
 """
 
 
+# the shred of the file ends, and its children with it
+FAMILY = SLEEP + often(100, "for (0 => int i; i < 1000; i++) spork ~ sleep();")
+
+
 def voices(declared, many=100, samples=441_000):
     """A text of so many voices, each behind a declaration of its own."""
     made = "".join(declared.format(k) + "\n" for k in range(many))
@@ -210,6 +214,7 @@ GROUPS = {
         "broadcasts": stats(
             1002, "an event with 4,096 waiters, broadcast 1,000 times", BROADCAST, is_for_chuck=False
         ),
+        "family": stats(102, "a shred with 100,000 children ends", FAMILY, is_for_chuck=False),
     },
     "graph": {
         "sine": sounds(
